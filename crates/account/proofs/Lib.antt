@@ -1,0 +1,4 @@
+pub mod Arrays
+pub mod Bounds
+pub mod LineParts
+pub mod Rows

@@ -1,0 +1,5 @@
+pub mod View
+pub mod Lines
+pub mod Own
+pub mod Account
+pub mod Within
