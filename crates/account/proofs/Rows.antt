@@ -33,6 +33,10 @@ pub sum-same : {X : Type 0} (f g : X → ℕ) → ((x : X) → f x ≡ g x) → 
 sum-same f g same [] = refl
 sum-same f g same (x ∷ xs) = omega (arith, sumBy-cons f x xs, sumBy-cons g x xs, same x, sum-same f g same xs)
 
+pub sum-map : {X Y : Type 0} (g : Y → ℕ) (f : X → Y) (xs : List X) → sumBy g (map f xs) ≡ sumBy (λ x. g (f x)) xs
+sum-map g f [] = refl
+sum-map g f (x ∷ xs) = omega (arith, sumBy-cons g (f x) (map f xs), sumBy-cons (λ x. g (f x)) x xs, sum-map g f xs)
+
 -- a turn that adds f of the element d that was read
 pub sum-turn : {X : Type 0} (f : X → ℕ) (xs : List X) (i : ℕ) (d : X) {sum x : ℕ} → i < length xs → d ≡ getD xs i d → sum ≡ sumBy f (take i xs) → x ≡ f d → sum + x ≡ sumBy f (take (i + 1) xs)
 sum-turn f xs i d h read was is = omega (arith, sumBy-more f xs i d h, was, is, ap f read)

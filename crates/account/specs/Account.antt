@@ -62,6 +62,10 @@ abbrev pub TablesOf : List LoadRow → List ResourceRow → List TradeRow → Op
 TablesOf ls rs ts None = (length ls ≤ maxRows) × (length rs ≤ maxRows) × (length ts ≤ maxRows) → ⊥
 TablesOf ls rs ts (Some t) = (t .loads .now ≡ ls) × (t .resources .now ≡ rs) × (t .trades .now ≡ ts)
 
+-- the rows of the QSE that a QSE row names, with that row's figures
+abbrev pub rowOwn : QseRow → Tables → Own
+rowOwn q t = ownOf (q .number) (plainFigures (q .figures)) (t .loads .now) (t .resources .now) (t .trades .now)
+
 -- the account reads the row's figures and the tables
 pub record AccountOf (q : QseRow) (side : Side) (t : Tables) (a : Account) : Type 0 where
   pub number : a .qse ≡ q .number

@@ -1,6 +1,7 @@
 // Accounts over tables, and the lines of an account.
 ghost use mathlib.Core.Path.{_≡_};
-ghost use Rattle.account.specs.Account.{LineIn, TablesOf, AccountOf};
+ghost use Rattle.account.specs.Account.{LineIn, TablesOf, AccountOf, accountView, rowOwn};
+ghost use Rattle.account.specs.Own.{viewOn};
 use super::account::Account;
 use super::account::Tables;
 use super::line::Line;
@@ -34,7 +35,8 @@ impl<'a> Tables<'a> {
 impl<'a> Account<'a> {
     // The account of a QSE row on a side.
     pub fn new(row: &'a QseRow, side: Side, tables: Tables<'a>) -> Account<'a>
-        ensures { λ r. ⌜ AccountOf (now (row .entry)) side (tables .entry) r ⌝ }
+        ensures reads { λ r. ⌜ AccountOf (now (row .entry)) side (tables .entry) r ⌝ }
+        ensures view { λ r. ⌜ accountView r ≡ viewOn side (rowOwn (now (row .entry)) (tables .entry)) ⌝ }
     {
         Account {
             qse: row.number,

@@ -6,7 +6,6 @@ use Prim.Native.Nat.{ℕ, _+_, _<_, _≤_, min}
 use native.Mathlib.Omega.{arith}
 use lib.ListN.{getD}
 use Rattle.std.specs.shelf.Lists.{All, sumBy, kept-by}
-use Rattle.std.proofs.shelf.Sums.{sumBy-cons}
 use Rattle.rows.specs.Rows.{plainResource}
 use Rattle.rows.specs.declared.resource.ResourceRow.{ResourceRow}
 use Rattle.account.specs.View.{View, Line, over}
@@ -16,7 +15,7 @@ use Rattle.account.specs.Account.{accountView, IsLine}
 use Rattle.account.specs.declared.account.Account.{Account}
 use Rattle.account.specs.declared.line.Line.{Line as LineRow}
 use Rattle.account.proofs.LineParts.{over-same}
-use Rattle.account.proofs.Rows.{sum-kept}
+use Rattle.account.proofs.Rows.{sum-kept, sum-map}
 use Rattle.measure.specs.Levels.{IsLevels, AtMost, served}
 use Rattle.measure.specs.Totals.{ownPart, Under}
 use Rattle.measure.specs.declared.levels.Levels.{Levels}
@@ -56,10 +55,6 @@ own-part g a r own = ap (λ b. cond b (g (lineOf (a .side) (plainResource r))) 0
 
 pub other-part : (g : Line → ℕ) (a : Account) (r : ResourceRow) → ownsResource (a .qse) r ≡ false → ownPart g a r ≡ 0
 other-part g a r own = ap (λ b. cond b (g (lineOf (a .side) (plainResource r))) 0) own
-
-sum-map : {X Y : Type 0} (g : Y → ℕ) (f : X → Y) (xs : List X) → sumBy g (map f xs) ≡ sumBy (λ x. g (f x)) xs
-sum-map g f [] = refl
-sum-map g f (x ∷ xs) = omega (arith, sumBy-cons g (f x) (map f xs), sumBy-cons (λ x. g (f x)) x xs, sum-map g f xs)
 
 -- the sum over the account's lines is a sum over all rows
 pub lines-sum : (g : Line → ℕ) (a : Account) → sumBy (ownPart g a) (a .resources .now) ≡ sumBy g (accountView a .lines)

@@ -1,0 +1,24 @@
+use mathlib.Core.Path.{_≡_, ap, _∙_}
+use native.Mathlib.Omega.{arith}
+use Rattle.account.specs.Account.{rowOwn}
+use Rattle.account.specs.Own.{viewOn}
+use Rattle.rows.specs.declared.codes.Side.the-variants.{Snapshot, Adjusted}
+use Rattle.shortfall.specs.Shortfall.{shortfallOf}
+use Rattle.shortfall.proofs.Bounded.{value-small}
+use Rattle.shortfall.proofs.Helps.{never-raised}
+use Rattle.shortfall.proofs.short.short_of.Needs as need
+
+pub returns : need.returns
+returns g c =
+    let m = g .M·Measure .meaning (c .args .m .now) in
+    let q = c .args .row .now in
+    let t = c .args .tables in
+    let laws = g .M·Measure·met in
+    let first = c .value .ensures ∙ ap m (c .new-snapshot .ensures .view) in
+    let second = c .value-2 .ensures ∙ ap m (c .new-adjusted .ensures .view) in
+    let is : c .saturating-sub .result ≡ shortfallOf m (rowOwn q t) = omega (arith, c .saturating-sub .ensures, c .max .ensures, c .from .ensures, first, second) in
+    record {
+      value = is;
+      small = omega (arith, c .saturating-sub .ensures, c .max .ensures, first, second, value-small (laws .bound (c .args .m .now)) q t Snapshot, value-small (laws .bound (c .args .m .now)) q t Adjusted);
+      helped = never-raised (laws .help (c .args .m .now)) (rowOwn q t) _ is;
+    }

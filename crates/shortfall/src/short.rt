@@ -1,0 +1,23 @@
+// The shortfall of one QSE.
+ghost use Prim.Native.Nat.{ℕ, _≤_};
+ghost use mathlib.Core.Path.{_≡_};
+ghost use Rattle.account.specs.Account.{rowOwn};
+ghost use Rattle.shortfall.specs.Shortfall.{shortfallOf, NeverRaised};
+use account::account::Account;
+use account::account::Tables;
+use measure::measure::Measure;
+use rows::codes::Side;
+use rows::qse::QseRow;
+
+// The greater of the two sides' values, less the credit.
+pub fn short_of<'a, M: Measure>(m: &M, row: &'a QseRow, tables: Tables<'a>) -> u64
+    ensures value { λ r. ⌜ r ≡ shortfallOf (meaning (now (m .entry))) (rowOwn (now (row .entry)) (tables .entry)) ⌝ }
+    ensures small { λ r. ⌜ r ≤ 1000000000000 ⌝ }
+    ensures helped { λ r. ⌜ NeverRaised (meaning (now (m .entry))) (rowOwn (now (row .entry)) (tables .entry)) r ⌝ }
+{
+    let snapshot = Account::new(row, Side::Snapshot, tables);
+    let adjusted = Account::new(row, Side::Adjusted, tables);
+    m.value(&snapshot)
+        .max(m.value(&adjusted))
+        .saturating_sub(u64::from(row.figures.credit))
+}
