@@ -1,5 +1,5 @@
 // The greater of two measures.
-ghost use Prim.Native.Nat.{ℕ, max};
+ghost use Prim.Native.Nat.{ℕ, _-_, max};
 use super::measure::Measure;
 use account::account::Account;
 

@@ -1,7 +1,7 @@
 // The shortfall of one QSE.
-ghost use Prim.Native.Nat.{ℕ, _≤_};
+ghost use Prim.Native.Nat.{ℕ, _-_, _≤_, max};
 ghost use mathlib.Core.Path.{_≡_};
-ghost use Rattle.account.specs.Account.{rowOwn};
+ghost use Rattle.account.specs.Account.{accountView, rowOwn};
 ghost use Rattle.shortfall.specs.Shortfall.{shortfallOf, NeverRaised};
 use account::account::Account;
 use account::account::Tables;
@@ -10,6 +10,15 @@ use rows::codes::Side;
 use rows::qse::QseRow;
 
 // The greater of the two sides' values, less the credit.
+fn beyond_credit<M: Measure>(m: &M, snapshot: &Account, adjusted: &Account, credit: u32) -> u64
+    ensures { λ r. ⌜ r ≡ max (meaning (now (m .entry)) (accountView (now (snapshot .entry)))) (meaning (now (m .entry)) (accountView (now (adjusted .entry)))) - credit ⌝ }
+{
+    m.value(snapshot)
+        .max(m.value(adjusted))
+        .saturating_sub(u64::from(credit))
+}
+
+// By the rows of the QSE alone; one more resource of its own would never raise it.
 pub fn short_of<'a, M: Measure>(m: &M, row: &'a QseRow, tables: Tables<'a>) -> u64
     ensures value { λ r. ⌜ r ≡ shortfallOf (meaning (now (m .entry))) (rowOwn (now (row .entry)) (tables .entry)) ⌝ }
     ensures small { λ r. ⌜ r ≤ 1000000000000 ⌝ }
@@ -17,7 +26,5 @@ pub fn short_of<'a, M: Measure>(m: &M, row: &'a QseRow, tables: Tables<'a>) -> u
 {
     let snapshot = Account::new(row, Side::Snapshot, tables);
     let adjusted = Account::new(row, Side::Adjusted, tables);
-    m.value(&snapshot)
-        .max(m.value(&adjusted))
-        .saturating_sub(u64::from(row.figures.credit))
+    beyond_credit(m, &snapshot, &adjusted, row.figures.credit)
 }

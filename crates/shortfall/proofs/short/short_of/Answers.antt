@@ -1,4 +1,4 @@
-use mathlib.Core.Path.{_≡_, ap, _∙_}
+use mathlib.Core.Path.{_≡_, ap}
 use native.Mathlib.Omega.{arith}
 use Rattle.account.specs.Account.{rowOwn}
 use Rattle.account.specs.Own.{viewOn}
@@ -14,11 +14,11 @@ returns g c =
     let q = c .args .row .now in
     let t = c .args .tables in
     let laws = g .M·Measure·met in
-    let first = c .value .ensures ∙ ap m (c .new-snapshot .ensures .view) in
-    let second = c .value-2 .ensures ∙ ap m (c .new-adjusted .ensures .view) in
-    let is : c .saturating-sub .result ≡ shortfallOf m (rowOwn q t) = omega (arith, c .saturating-sub .ensures, c .max .ensures, c .from .ensures, first, second) in
+    let first = ap m (c .new-snapshot .ensures .view) in
+    let second = ap m (c .new-adjusted .ensures .view) in
+    let is : c .beyond-credit .result ≡ shortfallOf m (rowOwn q t) = omega (arith, c .beyond-credit .ensures, first, second) in
     record {
       value = is;
-      small = omega (arith, c .saturating-sub .ensures, c .max .ensures, first, second, value-small (laws .bound (c .args .m .now)) q t Snapshot, value-small (laws .bound (c .args .m .now)) q t Adjusted);
+      small = omega (arith, is, value-small (laws .bound (c .args .m .now)) q t Snapshot, value-small (laws .bound (c .args .m .now)) q t Adjusted);
       helped = never-raised (laws .help (c .args .m .now)) (rowOwn q t) _ is;
     }

@@ -1,0 +1,5 @@
+pub mod Places
+pub mod Rules
+pub mod Keeps
+pub mod Parts
+pub mod Numbers
