@@ -1,7 +1,7 @@
 // Accounts over tables, and the lines of an account.
 ghost use mathlib.Core.Path.{_≡_};
 ghost use Rattle.account.specs.Account.{LineIn, TablesOf, AccountOf, accountView, rowOwn};
-ghost use Rattle.account.specs.Own.{viewOn};
+ghost use Rattle.account.specs.Own.{ownsResource, viewOn};
 use super::account::Account;
 use super::account::Tables;
 use super::line::Line;
@@ -48,11 +48,17 @@ impl<'a> Account<'a> {
         }
     }
 
+    fn owns(&self, row: &ResourceRow) -> bool
+        ensures { λ r. ⌜ r ≡ ownsResource (now (self .entry) .qse) (now (row .entry)) ⌝ }
+    {
+        row.qse == self.qse
+    }
+
     // The line of a resource row that is the QSE's.
     pub fn line(&self, row: &ResourceRow) -> Option<Line>
         ensures { λ r. ⌜ LineIn (now (self .entry)) (now (row .entry)) r ⌝ }
     {
-        if row.qse == self.qse {
+        if self.owns(row) {
             Some(Line::of(row, self.side))
         } else {
             None
