@@ -14,7 +14,7 @@ use Rattle.std.specs.shelf.Lists.{sumBy, kept-by}
 use Rattle.std.proofs.shelf.Sums.{sumBy-cons}
 use Rattle.rows.specs.Codes.{tradedSub}
 use Rattle.rows.specs.Limits.{maxRows}
-use Rattle.rows.specs.Rows.{plainFigures, plainTrade}
+use Rattle.rows.specs.Rows.{PlainLoad, plainFigures, plainLoad, plainTrade}
 use Rattle.rows.specs.declared.codes.Side.{Side}
 use Rattle.rows.specs.declared.codes.Side.the-variants.{Snapshot, Adjusted}
 use Rattle.rows.specs.declared.figures.Figures.{Figures}
@@ -23,11 +23,11 @@ use Rattle.rows.specs.declared.resource.ResourceRow.{ResourceRow}
 use Rattle.rows.specs.declared.trade.TradeRow.{TradeRow}
 use Rattle.account.specs.View.{View, zeros, add, withLines, Line, nine, over, counted}
 use Rattle.account.specs.Own.{Own, ownOf, ownsLoad, viewOn, netOf, positionOf, movedOf, figuresOn, importSide, onSide, partyOf}
-use Rattle.account.specs.Account.{loadIn}
+use Rattle.account.specs.Account.{loadIn, plainRows}
 use Rattle.account.specs.Within.{Within}
 use Rattle.account.specs.declared.party.Party.{Party}
 use Rattle.account.specs.declared.party.Party.the-variants.{Seller, Buyer}
-use Rattle.account.proofs.Rows.{sum-kept, rawMoved, moved-is}
+use Rattle.account.proofs.Rows.{sum-map, sum-plain, rawMoved, moved-is}
 
 -- a counted number in the terms of omega
 pub counted-is : (z : ℤ) → counted z ≡ up z - down z
@@ -110,7 +110,7 @@ storage-ge z h = omega (arith, ints)
 
 module _ (q : ℕ) (f : Figures) (ls : List LoadRow) (rs : List ResourceRow) (ts : List TradeRow) (side : Side) (few : length ts ≤ maxRows) where
   abbrev own : Own
-  own = ownOf q (plainFigures f) ls rs ts
+  own = ownOf q (plainFigures f) (plainRows ls rs ts)
 
   sold-le : (s : ℕ) → movedOf Seller side own s ≤ 5120000000
   sold-le s = omega (arith, moved-is Seller side q s ts, sum-le (rawMoved Seller side q s) 10000000 (moved-le Seller side q s) ts)
@@ -132,7 +132,7 @@ module _ (q : ℕ) (f : Figures) (ls : List LoadRow) (rs : List ResourceRow) (ts
   pub own-within : length ls ≤ maxRows → Within 1 (viewOn side own)
   own-within fewLoads =
       let load = sum-le (loadIn q) 1000000 (λ l. cond-le (eqb (l .qse) q) (l .kwh) 1000000 (l .limits .1)) ls in
-      let kept = sum-kept (λ kwh. kwh) (λ (l : LoadRow). l .kwh) (ownsLoad q) ls in
+      let kept = sum-map (λ kwh. kwh) (λ (l : PlainLoad). l .kwh) (kept-by (ownsLoad q) (map plainLoad ls)) ∙ sum-plain (λ l. l .kwh) plainLoad (ownsLoad q) ls in
       record {
         load = omega (arith, load, kept);
         net = net-ge (f .purchase) (f .sale) (movedOf Buyer side own 0) (movedOf Seller side own 0) _ (f .powers .2) (sold-le 0);

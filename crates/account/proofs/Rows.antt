@@ -29,6 +29,18 @@ sum-kept {X} {Y} g f p (x ∷ xs) =
     λ b. elim b as (λ b. sumBy g (map f (cond b (x ∷ K) K)) ≡ cond b (g (f x)) 0 + sumBy g (map f K)) [ true ↦ sumBy-cons g (f x) (map f K) | false ↦ omega arith ] in
     here (p x) ∙ ap (λ n. cond (p x) (g (f x)) 0 + n) (sum-kept g f p xs) ∙ sym (sumBy-cons w x xs)
 
+-- keeping plain rows is keeping rows
+pub kept-map : {X Y : Type 0} (f : X → Y) (p : Y → Bool) (xs : List X) → kept-by p (map f xs) ≡ map f (kept-by (λ x. p (f x)) xs)
+kept-map f p [] = refl
+kept-map {X} {Y} f p (x ∷ xs) =
+    let K = kept-by (λ x. p (f x)) xs in
+    let here : (b : Bool) → cond b (f x ∷ map f K) (map f K) ≡ map f (cond b (x ∷ K) K) = λ b. elim b as (λ b. cond b (f x ∷ map f K) (map f K) ≡ map f (cond b (x ∷ K) K)) [ true ↦ refl | false ↦ refl ] in
+    ap (λ l. cond (p (f x)) (f x ∷ l) l) (kept-map f p xs) ∙ here (p (f x))
+
+-- the sum over the plain rows that pass
+pub sum-plain : {X Y : Type 0} (g : Y → ℕ) (f : X → Y) (p : Y → Bool) (xs : List X) → sumBy g (kept-by p (map f xs)) ≡ sumBy (λ x. cond (p (f x)) (g (f x)) 0) xs
+sum-plain g f p xs = ap (sumBy g) (kept-map f p xs) ∙ sum-kept g f (λ x. p (f x)) xs
+
 pub sum-same : {X : Type 0} (f g : X → ℕ) → ((x : X) → f x ≡ g x) → (xs : List X) → sumBy f xs ≡ sumBy g xs
 sum-same f g same [] = refl
 sum-same f g same (x ∷ xs) = omega (arith, sumBy-cons f x xs, sumBy-cons g x xs, same x, sum-same f g same xs)
@@ -82,10 +94,10 @@ or-right : (a b : Bool) → b ≡ true → a || b ≡ true
 or-right true b e = refl
 or-right false b e = e
 
-raw-is : (party : Party) (side : Side) (q s : ℕ) (t : TradeRow) → cond (partyTo q t) (movedIn party side q s (plainTrade t)) 0 ≡ rawMoved party side q s t
+raw-is : (party : Party) (side : Side) (q s : ℕ) (t : TradeRow) → cond (partyTo q (plainTrade t)) (movedIn party side q s (plainTrade t)) 0 ≡ rawMoved party side q s t
 raw-is Seller side q s t = guards (t .counts) (eqb (t .seller) q) (eqb (t .buyer) q) (onSide side (t .sides)) (eqb (tradedSub (t .traded)) s) (eqb (t .seller) q) (t .kw) (or-left (eqb (t .seller) q) (eqb (t .buyer) q))
 raw-is Buyer side q s t = guards (t .counts) (eqb (t .seller) q) (eqb (t .buyer) q) (onSide side (t .sides)) (eqb (tradedSub (t .traded)) s) (eqb (t .buyer) q) (t .kw) (or-right (eqb (t .seller) q) (eqb (t .buyer) q))
 
 -- the trades of the QSE move what all trades move for it
-pub moved-is : (party : Party) (side : Side) (q s : ℕ) (ts : List TradeRow) → sumBy (movedIn party side q s) (map plainTrade (kept-by (partyTo q) ts)) ≡ sumBy (rawMoved party side q s) ts
-moved-is party side q s ts = sum-kept (movedIn party side q s) plainTrade (partyTo q) ts ∙ sum-same _ _ (raw-is party side q s) ts
+pub moved-is : (party : Party) (side : Side) (q s : ℕ) (ts : List TradeRow) → sumBy (movedIn party side q s) (kept-by (partyTo q) (map plainTrade ts)) ≡ sumBy (rawMoved party side q s) ts
+moved-is party side q s ts = sum-plain (movedIn party side q s) plainTrade (partyTo q) ts ∙ sum-same _ _ (raw-is party side q s) ts

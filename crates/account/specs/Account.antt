@@ -1,6 +1,6 @@
 -- What the account of a QSE on a side says, and what its code answers with.
 use mathlib.Core.Bool.{true, false, cond, _&&_}
-use mathlib.Core.List.{List}
+use mathlib.Core.List.{List, map}
 use mathlib.Core.Path.{_≡_}
 use Prim.Native.Nat.{ℕ, _<_, _≤_}
 use lib.Dec.{eqb}
@@ -11,28 +11,34 @@ use Rattle.rows.specs.declared.codes.Side.{Side}
 use Rattle.rows.specs.declared.qse.QseRow.{QseRow}
 use Rattle.std.specs.declared.option.Option.{Option}
 use Rattle.std.specs.declared.option.Option.the-variants.{Some, None}
-use Rattle.rows.specs.Rows.{plainFigures, plainResource, plainTrade}
+use Rattle.rows.specs.Rows.{plainFigures, plainLoad, plainResource, plainTrade}
 use Rattle.rows.specs.declared.load.LoadRow.{LoadRow}
 use Rattle.rows.specs.declared.resource.ResourceRow.{ResourceRow}
 use Rattle.rows.specs.declared.trade.TradeRow.{TradeRow}
 use Rattle.account.specs.View.{View, Line}
 use Rattle.account.specs.Lines.{lineOf}
-use Rattle.account.specs.Own.{Own, ownOf, viewOn, ownsLoad, ownsResource, onSide, partyOf}
+use Rattle.account.specs.Own.{Own, PlainTables, ownOf, viewOn, ownsLoad, ownsResource, onSide, partyOf}
 use Rattle.account.specs.declared.line.Line.{Line as LineRow}
 use Rattle.account.specs.declared.account.Account.{Account}
 use Rattle.account.specs.declared.account.Tables.{Tables}
 use Rattle.account.specs.declared.party.Party.{Party}
 use Rattle.account.specs.declared.standing.Standing.{Standing}
 
+abbrev pub plainRows : List LoadRow → List ResourceRow → List TradeRow → PlainTables
+plainRows ls rs ts = record { loads = map plainLoad ls; resources = map plainResource rs; trades = map plainTrade ts }
+
+abbrev pub plainTables : Tables → PlainTables
+plainTables t = plainRows (t .loads .now) (t .resources .now) (t .trades .now)
+
 abbrev pub accountOwn : Account → Own
-accountOwn a = ownOf (a .qse) (plainFigures (a .figures .now)) (a .loads .now) (a .resources .now) (a .trades .now)
+accountOwn a = ownOf (a .qse) (plainFigures (a .figures .now)) (plainRows (a .loads .now) (a .resources .now) (a .trades .now))
 
 abbrev pub accountView : Account → View
 accountView a = viewOn (a .side) (accountOwn a)
 
 -- the kWh of a load that is q's, and the kW of a trade that counts, on the account's side, for the QSE as that party
 abbrev pub loadIn : ℕ → LoadRow → ℕ
-loadIn q l = cond (ownsLoad q l) (l .kwh) 0
+loadIn q l = cond (ownsLoad q (plainLoad l)) (l .kwh) 0
 
 abbrev pub countsFor : Party → Account → TradeRow → ℕ
 countsFor party a t = cond (t .counts && (onSide (a .side) (t .sides) && eqb (partyOf party (plainTrade t)) (a .qse))) (t .kw) 0
@@ -47,8 +53,8 @@ pub record IsLine (l : LineRow) (m : Line) : Type 0 where
 
 -- the line of the row where the row is the account's, and nothing where it is another's
 abbrev pub LineIn : Account → ResourceRow → Option LineRow → Type 0
-LineIn a r None = ownsResource (a .qse) r ≡ false
-LineIn a r (Some l) = (ownsResource (a .qse) r ≡ true) × IsLine l (lineOf (a .side) (plainResource r))
+LineIn a r None = ownsResource (a .qse) (plainResource r) ≡ false
+LineIn a r (Some l) = (ownsResource (a .qse) (plainResource r) ≡ true) × IsLine l (lineOf (a .side) (plainResource r))
 
 -- load, net, storage net and the nine positions
 pub record Stands (a : Account) (s : Standing) : Type 0 where
@@ -61,10 +67,6 @@ pub record Stands (a : Account) (s : Standing) : Type 0 where
 abbrev pub TablesOf : List LoadRow → List ResourceRow → List TradeRow → Option Tables → Type 0
 TablesOf ls rs ts None = (length ls ≤ maxRows) × (length rs ≤ maxRows) × (length ts ≤ maxRows) → ⊥
 TablesOf ls rs ts (Some t) = (t .loads .now ≡ ls) × (t .resources .now ≡ rs) × (t .trades .now ≡ ts)
-
--- the rows of the QSE that a QSE row names, with that row's figures
-abbrev pub rowOwn : QseRow → Tables → Own
-rowOwn q t = ownOf (q .number) (plainFigures (q .figures)) (t .loads .now) (t .resources .now) (t .trades .now)
 
 -- the account reads the row's figures and the tables
 pub record AccountOf (q : QseRow) (side : Side) (t : Tables) (a : Account) : Type 0 where

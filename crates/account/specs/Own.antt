@@ -7,14 +7,11 @@ use lib.IntN.{ℤ, pos, _+ℤ_, _-ℤ_}
 use lib.ListN.{getD}
 use Rattle.std.specs.shelf.Lists.{sumBy, kept-by}
 use Rattle.rows.specs.Codes.{tradedSub}
-use Rattle.rows.specs.Rows.{PlainFigures, PlainFiguresSide, PlainResource, PlainTrade, plainResource, plainTrade}
+use Rattle.rows.specs.Rows.{PlainFigures, PlainFiguresSide, PlainLoad, PlainQse, PlainResource, PlainTrade}
 use Rattle.rows.specs.declared.codes.Side.{Side}
 use Rattle.rows.specs.declared.codes.Side.the-variants.{Snapshot, Adjusted}
 use Rattle.rows.specs.declared.codes.Sides.{Sides}
 use Rattle.rows.specs.declared.codes.Sides.the-variants.{SnapshotOnly, AdjustedOnly, Both}
-use Rattle.rows.specs.declared.load.LoadRow.{LoadRow}
-use Rattle.rows.specs.declared.resource.ResourceRow.{ResourceRow}
-use Rattle.rows.specs.declared.trade.TradeRow.{TradeRow}
 use Rattle.account.specs.View.{View}
 use Rattle.account.specs.Lines.{linesOn}
 use Rattle.account.specs.declared.party.Party.{Party}
@@ -28,23 +25,33 @@ pub record Own : Type 0 where
   pub resources : List PlainResource
   pub trades : List PlainTrade
 
-abbrev pub ownsLoad : ℕ → LoadRow → Bool
+abbrev pub ownsLoad : ℕ → PlainLoad → Bool
 ownsLoad q l = eqb (l .qse) q
 
-abbrev pub ownsResource : ℕ → ResourceRow → Bool
+abbrev pub ownsResource : ℕ → PlainResource → Bool
 ownsResource q r = eqb (r .qse) q
 
-abbrev pub partyTo : ℕ → TradeRow → Bool
+abbrev pub partyTo : ℕ → PlainTrade → Bool
 partyTo q t = t .counts && (eqb (t .seller) q || eqb (t .buyer) q)
 
-abbrev pub ownOf : ℕ → PlainFigures → List LoadRow → List ResourceRow → List TradeRow → Own
-ownOf q f ls rs ts = record {
+-- the tables that accounts read
+pub record PlainTables : Type 0 where
+  pub loads : List PlainLoad
+  pub resources : List PlainResource
+  pub trades : List PlainTrade
+
+abbrev pub ownOf : ℕ → PlainFigures → PlainTables → Own
+ownOf q f t = record {
   number = q;
   figures = f;
-  loads = map (λ l. l .kwh) (kept-by (ownsLoad q) ls);
-  resources = map plainResource (kept-by (ownsResource q) rs);
-  trades = map plainTrade (kept-by (partyTo q) ts);
+  loads = map (λ l. l .kwh) (kept-by (ownsLoad q) (t .loads));
+  resources = kept-by (ownsResource q) (t .resources);
+  trades = kept-by (partyTo q) (t .trades);
 }
+
+-- the rows of the QSE that a QSE row names, with that row's figures
+abbrev pub qseOwn : PlainQse → PlainTables → Own
+qseOwn q t = ownOf (q .number) (q .figures) t
 
 abbrev pub onSide : Side → Sides → Bool
 onSide Snapshot SnapshotOnly = true

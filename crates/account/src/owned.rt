@@ -1,7 +1,8 @@
 // Accounts over tables, and the lines of an account.
 ghost use mathlib.Core.Path.{_≡_};
-ghost use Rattle.account.specs.Account.{LineIn, TablesOf, AccountOf, accountView, rowOwn};
-ghost use Rattle.account.specs.Own.{ownsResource, viewOn};
+ghost use Rattle.rows.specs.Rows.{plainQse, plainResource};
+ghost use Rattle.account.specs.Account.{LineIn, TablesOf, AccountOf, accountView, plainTables};
+ghost use Rattle.account.specs.Own.{ownsResource, qseOwn, viewOn};
 use super::account::Account;
 use super::account::Tables;
 use super::line::Line;
@@ -36,7 +37,7 @@ impl<'a> Account<'a> {
     // The account of a QSE row on a side.
     pub fn new(row: &'a QseRow, side: Side, tables: Tables<'a>) -> Account<'a>
         ensures reads { λ r. ⌜ AccountOf (now (row .entry)) side (tables .entry) r ⌝ }
-        ensures view { λ r. ⌜ accountView r ≡ viewOn side (rowOwn (now (row .entry)) (tables .entry)) ⌝ }
+        ensures view { λ r. ⌜ accountView r ≡ viewOn side (qseOwn (plainQse (now (row .entry))) (plainTables (tables .entry))) ⌝ }
     {
         Account {
             qse: row.number,
@@ -49,7 +50,7 @@ impl<'a> Account<'a> {
     }
 
     fn owns(&self, row: &ResourceRow) -> bool
-        ensures { λ r. ⌜ r ≡ ownsResource (now (self .entry) .qse) (now (row .entry)) ⌝ }
+        ensures { λ r. ⌜ r ≡ ownsResource (now (self .entry) .qse) (plainResource (now (row .entry))) ⌝ }
     {
         row.qse == self.qse
     }

@@ -15,7 +15,7 @@ use Rattle.account.specs.Account.{accountView, IsLine}
 use Rattle.account.specs.declared.account.Account.{Account}
 use Rattle.account.specs.declared.line.Line.{Line as LineRow}
 use Rattle.account.proofs.LineParts.{over-same}
-use Rattle.account.proofs.Rows.{sum-kept, sum-map}
+use Rattle.account.proofs.Rows.{sum-map, sum-plain}
 use Rattle.measure.specs.Levels.{IsLevels, AtMost, served}
 use Rattle.measure.specs.Totals.{ownPart, Under}
 use Rattle.measure.specs.declared.levels.Levels.{Levels}
@@ -50,14 +50,14 @@ pub served-is : (l : LineRow) (m : Line) → IsLine l m → (ks : List ℕ) → 
 served-is l m is ks all = omega (arith, is .room, over-same ks (λ k. getD (l .capability) k 0) (m .capability) all (is .capability))
 
 -- a row of the account counts with its line
-pub own-part : (g : Line → ℕ) (a : Account) (r : ResourceRow) → ownsResource (a .qse) r ≡ true → ownPart g a r ≡ g (lineOf (a .side) (plainResource r))
+pub own-part : (g : Line → ℕ) (a : Account) (r : ResourceRow) → ownsResource (a .qse) (plainResource r) ≡ true → ownPart g a r ≡ g (lineOf (a .side) (plainResource r))
 own-part g a r own = ap (λ b. cond b (g (lineOf (a .side) (plainResource r))) 0) own
 
-pub other-part : (g : Line → ℕ) (a : Account) (r : ResourceRow) → ownsResource (a .qse) r ≡ false → ownPart g a r ≡ 0
+pub other-part : (g : Line → ℕ) (a : Account) (r : ResourceRow) → ownsResource (a .qse) (plainResource r) ≡ false → ownPart g a r ≡ 0
 other-part g a r own = ap (λ b. cond b (g (lineOf (a .side) (plainResource r))) 0) own
 
 -- the sum over the account's lines is a sum over all rows
 pub lines-sum : (g : Line → ℕ) (a : Account) → sumBy (ownPart g a) (a .resources .now) ≡ sumBy g (accountView a .lines)
 lines-sum g a =
-    sym (sum-map g (lineOf (a .side)) (map plainResource (kept-by (ownsResource (a .qse)) (a .resources .now)))
-    ∙ sum-kept (λ r. g (lineOf (a .side) r)) plainResource (ownsResource (a .qse)) (a .resources .now))
+    sym (sum-map g (lineOf (a .side)) (kept-by (ownsResource (a .qse)) (map plainResource (a .resources .now)))
+    ∙ sum-plain (λ r. g (lineOf (a .side) r)) plainResource (ownsResource (a .qse)) (a .resources .now))

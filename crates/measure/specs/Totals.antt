@@ -30,7 +30,7 @@ pub record Adds (t : Totals) (l : LineRow) (s : Totals) : Type 0 where
 
 -- g of the row's line where the row is the account's, and nothing where it is another's
 abbrev pub ownPart : (Line → ℕ) → Account → ResourceRow → ℕ
-ownPart g a r = cond (ownsResource (a .qse) r) (g (lineOf (a .side) (plainResource r))) 0
+ownPart g a r = cond (ownsResource (a .qse) (plainResource r)) (g (lineOf (a .side) (plainResource r))) 0
 
 -- s is t with the row's line
 pub record AddsRow (a : Account) (t : Totals) (r : ResourceRow) (s : Totals) : Type 0 where

@@ -9,6 +9,8 @@ use Rattle.rows.specs.declared.codes.Sides.{Sides}
 use Rattle.rows.specs.declared.codes.Traded.{Traded}
 use Rattle.rows.specs.declared.figures.Figures.{Figures}
 use Rattle.rows.specs.declared.figures.FiguresSide.{FiguresSide}
+use Rattle.rows.specs.declared.load.LoadRow.{LoadRow}
+use Rattle.rows.specs.declared.qse.QseRow.{QseRow}
 use Rattle.rows.specs.declared.resource.ResourceRow.{ResourceRow}
 use Rattle.rows.specs.declared.resource.ResourceSide.{ResourceSide}
 use Rattle.rows.specs.declared.trade.TradeRow.{TradeRow}
@@ -71,13 +73,32 @@ plainResource r = record {
   adjusted = plainSide (r .adjusted);
 }
 
--- whether it counts, being void or not, stands beside it
+-- a trade counts until it is void
 pub record PlainTrade : Type 0 where
   pub traded : Traded
   pub sides : Sides
   pub seller : ℕ
   pub buyer : ℕ
   pub kw : ℕ
+  pub counts : Bool
 
 abbrev pub plainTrade : TradeRow → PlainTrade
-plainTrade t = record { traded = t .traded; sides = t .sides; seller = t .seller; buyer = t .buyer; kw = t .kw }
+plainTrade t = record { traded = t .traded; sides = t .sides; seller = t .seller; buyer = t .buyer; kw = t .kw; counts = t .counts }
+
+pub record PlainLoad : Type 0 where
+  pub qse : ℕ
+  pub point : ℕ
+  pub kwh : ℕ
+  pub cents : ℕ
+
+abbrev pub plainLoad : LoadRow → PlainLoad
+plainLoad l = record { qse = l .qse; point = l .point; kwh = l .kwh; cents = l .cents }
+
+pub record PlainQse : Type 0 where
+  pub number : ℕ
+  pub figures : PlainFigures
+  pub shortfall : ℕ
+  pub cents : ℕ
+
+abbrev pub plainQse : QseRow → PlainQse
+plainQse q = record { number = q .number; figures = plainFigures (q .figures); shortfall = q .shortfall; cents = q .cents }

@@ -4,21 +4,17 @@ use mathlib.Core.List.{List, [], _∷_, _++_, map}
 use Prim.Native.Nat.{ℕ, _+_, _≤_, max, zero-le}
 use native.Mathlib.Omega.{arith}
 use Rattle.std.specs.Slices.{Shuffled}
-use Rattle.std.specs.shelf.Lists.{All, sumBy, kept-by}
+use Rattle.std.specs.shelf.Lists.{All, sumBy}
 use Rattle.std.proofs.shelf.Sums.{sumBy-cons}
-use Rattle.rows.specs.Rows.{PlainResource, plainResource}
+use Rattle.rows.specs.Rows.{PlainQse, PlainResource}
 use Rattle.rows.specs.declared.codes.Side.{Side}
 use Rattle.rows.specs.declared.codes.Side.the-variants.{Snapshot, Adjusted}
-use Rattle.rows.specs.declared.qse.QseRow.{QseRow}
-use Rattle.rows.specs.declared.resource.ResourceRow.{ResourceRow}
-use Rattle.account.specs.View.{View, Line}
+use Rattle.account.specs.View.{View}
 use Rattle.account.specs.Lines.{lineOf, linesOn}
-use Rattle.account.specs.Own.{Own, viewOn, ownsResource}
-use Rattle.account.specs.Account.{rowOwn}
-use Rattle.account.specs.declared.account.Tables.{Tables}
+use Rattle.account.specs.Own.{Own, PlainTables, qseOwn, viewOn}
 use Rattle.measure.specs.Laws.{Order, Pool, Nothing}
 use Rattle.shortfall.specs.Shortfall.{shortfallOf}
-use Rattle.shortfall.specs.Pool.{joined, poolView, poolShortfall, total, owns, Among, Distinct, CoversPool}
+use Rattle.shortfall.specs.Pool.{joined, poolView, poolShortfall, total, owns, numbers, Among, Distinct, CoversPool}
 use Rattle.shortfall.proofs.TableOrder.{table-order, blocks}
 
 abbrev greater : (View → ℕ) → Own → ℕ
@@ -48,29 +44,17 @@ module _ {m : View → ℕ} (order : Order m) (pool : Pool m) (nothing : Nothing
         less-le os,
       )
 
-map-map : {X Y Z : Type 0} (g : Y → Z) (f : X → Y) (xs : List X) → map g (map f xs) ≡ map (λ x. g (f x)) xs
-map-map g f [] = refl
-map-map g f (x ∷ xs) = ap (λ l. g (f x) ∷ l) (map-map g f xs)
-
-module _ (t : Tables) (side : Side) where
-  abbrev line : ResourceRow → Line
-  line r = lineOf side (plainResource r)
-
+module _ (t : PlainTables) (side : Side) where
   -- the lines of each QSE, one QSE after the other
-  own-blocks : (qs : List QseRow) → blocks (λ r. r .qse) line (map (λ q. q .number) qs) (t .resources .now) ≡ joined side (owns t qs) .lines
+  own-blocks : (qs : List PlainQse) → blocks (λ r. r .qse) (lineOf side) (numbers qs) (t .resources) ≡ joined side (owns t qs) .lines
   own-blocks [] = refl
-  own-blocks (q ∷ qs) =
-      ap (λ l. l ++ blocks (λ r. r .qse) line (map (λ q. q .number) qs) (t .resources .now)) (sym (map-map (lineOf side) plainResource (kept-by (ownsResource (q .number)) (t .resources .now))))
-      ∙ ap (λ l. viewOn side (rowOwn q t) .lines ++ l) (own-blocks qs)
+  own-blocks (q ∷ qs) = ap (λ l. viewOn side (qseOwn q t) .lines ++ l) (own-blocks qs)
 
-  lines-in-order : (qs : List QseRow) → Distinct (map (λ q. q .number) qs) → All (λ r. Among (map (λ q. q .number) qs) (r .qse)) (t .resources .now)
-      → Shuffled (joined side (owns t qs) .lines) (linesOn side (map plainResource (t .resources .now)))
+  lines-in-order : (qs : List PlainQse) → Distinct (numbers qs) → All (λ r. Among (numbers qs) (r .qse)) (t .resources) → Shuffled (joined side (owns t qs) .lines) (linesOn side (t .resources))
   lines-in-order qs distinct all =
-      subst (λ l. Shuffled l (linesOn side (map plainResource (t .resources .now)))) (own-blocks qs)
-      (subst (Shuffled (blocks (λ r. r .qse) line (map (λ q. q .number) qs) (t .resources .now))) (sym (map-map (lineOf side) plainResource (t .resources .now)))
-      (table-order (λ r. r .qse) line _ (t .resources .now) distinct all))
+      subst (λ l. Shuffled l (linesOn side (t .resources))) (own-blocks qs) (table-order (λ r. r .qse) (lineOf side) _ (t .resources) distinct all)
 
-pub sum-covers-pool : {m : View → ℕ} → Order m → Pool m → Nothing m → (t : Tables) (qs : List QseRow) (s : ℕ) → s ≡ total m (owns t qs) → CoversPool m t qs s
+pub sum-covers-pool : {m : View → ℕ} → Order m → Pool m → Nothing m → (t : PlainTables) (qs : List PlainQse) (s : ℕ) → s ≡ total m (owns t qs) → CoversPool m t qs s
 sum-covers-pool {m} order pool nothing t qs s is distinct all =
-    subst (λ n. poolShortfall m (owns t qs) (map plainResource (t .resources .now)) ≤ n) (sym is)
-    (pool-at-most order pool nothing (owns t qs) (map plainResource (t .resources .now)) (λ side. lines-in-order t side qs distinct all))
+    subst (λ n. poolShortfall m (owns t qs) (t .resources) ≤ n) (sym is)
+    (pool-at-most order pool nothing (owns t qs) (t .resources) (λ side. lines-in-order t side qs distinct all))

@@ -5,15 +5,11 @@ use mathlib.Core.Logic.{_⊎_}
 use Prim.Native.Nat.{ℕ, _≤_}
 use lib.ListN.{length}
 use Rattle.std.specs.shelf.Lists.{All, sumBy}
-use Rattle.rows.specs.Rows.{PlainResource, plainResource}
+use Rattle.rows.specs.Rows.{PlainQse, PlainResource}
 use Rattle.rows.specs.declared.codes.Side.{Side}
-use Rattle.rows.specs.declared.qse.QseRow.{QseRow}
-use Rattle.rows.specs.declared.resource.ResourceRow.{ResourceRow}
 use Rattle.account.specs.View.{View, zeros, add, withLines}
 use Rattle.account.specs.Lines.{linesOn}
-use Rattle.account.specs.Own.{Own, viewOn}
-use Rattle.account.specs.Account.{rowOwn}
-use Rattle.account.specs.declared.account.Tables.{Tables}
+use Rattle.account.specs.Own.{Own, PlainTables, qseOwn, viewOn}
 use Rattle.shortfall.specs.Shortfall.{shortfallBy, shortfallOf}
 
 -- accounts added up, figure by figure
@@ -42,16 +38,19 @@ Distinct [] = Unit {0}
 Distinct (x ∷ xs) = (Among xs x → ⊥) × Distinct xs
 
 -- the rows of each QSE row in its own right
-abbrev pub owns : Tables → List QseRow → List Own
-owns t qs = map (λ q. rowOwn q t) qs
+abbrev pub owns : PlainTables → List PlainQse → List Own
+owns t qs = map (λ q. qseOwn q t) qs
+
+abbrev pub numbers : List PlainQse → List ℕ
+numbers qs = map (λ q. q .number) qs
 
 -- where the QSEs' numbers are distinct and every resource is one of theirs, the pool's shortfall is at most s
-abbrev pub CoversPool : (View → ℕ) → Tables → List QseRow → ℕ → Type 0
+abbrev pub CoversPool : (View → ℕ) → PlainTables → List PlainQse → ℕ → Type 0
 CoversPool m t qs s =
-    Distinct (map (λ q. q .number) qs)
-    → All (λ r. Among (map (λ q. q .number) qs) (r .qse)) (t .resources .now)
-    → poolShortfall m (owns t qs) (map plainResource (t .resources .now)) ≤ s
+    Distinct (numbers qs)
+    → All (λ r. Among (numbers qs) (r .qse)) (t .resources)
+    → poolShortfall m (owns t qs) (t .resources) ≤ s
 
 -- the pool of up to 64 QSEs is worth at most 10^12 on either side
-abbrev pub PoolBounded : (View → ℕ) → Tables → List QseRow → Type 0
-PoolBounded m t qs = length qs ≤ 64 → (side : Side) → m (poolView (owns t qs) (map plainResource (t .resources .now)) side) ≤ 1000000000000
+abbrev pub PoolBounded : (View → ℕ) → PlainTables → List PlainQse → Type 0
+PoolBounded m t qs = length qs ≤ 64 → (side : Side) → m (poolView (owns t qs) (t .resources) side) ≤ 1000000000000

@@ -1,7 +1,9 @@
 // The shortfall of one QSE.
 ghost use Prim.Native.Nat.{ℕ, _-_, _≤_, max};
 ghost use mathlib.Core.Path.{_≡_};
-ghost use Rattle.account.specs.Account.{accountView, rowOwn};
+ghost use Rattle.rows.specs.Rows.{plainQse};
+ghost use Rattle.account.specs.Account.{accountView, plainTables};
+ghost use Rattle.account.specs.Own.{qseOwn};
 ghost use Rattle.shortfall.specs.Shortfall.{shortfallOf, NeverRaised};
 use account::account::Account;
 use account::account::Tables;
@@ -20,9 +22,9 @@ fn beyond_credit<M: Measure>(m: &M, snapshot: &Account, adjusted: &Account, cred
 
 // By the rows of the QSE alone; one more resource of its own would never raise it.
 pub fn short_of<'a, M: Measure>(m: &M, row: &'a QseRow, tables: Tables<'a>) -> u64
-    ensures value { λ r. ⌜ r ≡ shortfallOf (meaning (now (m .entry))) (rowOwn (now (row .entry)) (tables .entry)) ⌝ }
+    ensures value { λ r. ⌜ r ≡ shortfallOf (meaning (now (m .entry))) (qseOwn (plainQse (now (row .entry))) (plainTables (tables .entry))) ⌝ }
     ensures small { λ r. ⌜ r ≤ 1000000000000 ⌝ }
-    ensures helped { λ r. ⌜ NeverRaised (meaning (now (m .entry))) (rowOwn (now (row .entry)) (tables .entry)) r ⌝ }
+    ensures helped { λ r. ⌜ NeverRaised (meaning (now (m .entry))) (qseOwn (plainQse (now (row .entry))) (plainTables (tables .entry))) r ⌝ }
 {
     let snapshot = Account::new(row, Side::Snapshot, tables);
     let adjusted = Account::new(row, Side::Adjusted, tables);

@@ -1,4 +1,7 @@
 // Shortfalls written into their rows.
+ghost use mathlib.Core.List.{map};
+ghost use Rattle.rows.specs.Rows.{plainQse};
+ghost use Rattle.account.specs.Account.{plainTables};
 ghost use Rattle.shortfall.specs.Strike.{Struck};
 use super::short::short_of;
 use super::total::total_short;
@@ -14,7 +17,7 @@ pub fn write_shortfalls<M: Measure>(
     rows: &mut [QseRow],
     tables: Tables,
 ) -> Result<u64, Fault>
-    ensures { λ r. ⌜ Struck (meaning (now (m .entry))) (tables .entry) (now (rows .entry)) (now (rows .exit)) r ⌝ }
+    ensures { λ r. ⌜ Struck (meaning (now (m .entry))) (plainTables (tables .entry)) (map plainQse (now (rows .entry))) (map plainQse (now (rows .exit))) r ⌝ }
 {
     let t = total_short(m, rows, tables);
     if t > u128::from(MAX_SHORTFALL) {

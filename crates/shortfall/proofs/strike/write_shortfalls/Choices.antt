@@ -1,10 +1,8 @@
-use mathlib.Core.Path.{_≡_}
-use lib.ListN.{take, drop}
-use Rattle.std.specs.shelf.Lists.{Each}
-use Rattle.shortfall.specs.Strike.{rowShort, Written}
+use Rattle.rows.specs.Rows.{plainQse}
+use Rattle.account.specs.Account.{plainTables}
+use Rattle.shortfall.specs.Strike.{written}
+use Rattle.shortfall.proofs.Turns.{WrittenTo}
 use Rattle.shortfall.proofs.strike.write_shortfalls.Given as given
 
 abbrev pub Inv-loop-i : given.InvT-loop-i
-Inv-loop-i g l =
-    Each (Written (rowShort (g .M·Measure .meaning (l .m)) (l .tables))) (take (l .i) (l .entry .rows)) (take (l .i) (l .rows))
-    × (drop (l .i) (l .rows) ≡ drop (l .i) (l .entry .rows))
+Inv-loop-i g l = WrittenTo plainQse (written (g .M·Measure .meaning (l .m)) (plainTables (l .tables))) (l .entry .rows) (l .rows) (l .i)

@@ -1,7 +1,11 @@
 use mathlib.Core.Path.{_≡_, sym, _∙_}
-use Prim.Native.Nat.{_+_}
+use Prim.Native.Nat.{ℕ, _+_}
 use native.Mathlib.Omega.{arith}
-use Rattle.account.specs.Account.{rowOwn}
+use mathlib.Core.List.{map}
+use Rattle.rows.specs.Rows.{plainQse}
+use Rattle.rows.specs.declared.qse.QseRow.{QseRow}
+use Rattle.account.specs.Account.{plainTables}
+use Rattle.account.specs.Own.{qseOwn}
 use Rattle.account.proofs.Rows.{sum-turn, sum-all, sum-map}
 use Rattle.shortfall.specs.Shortfall.{shortfallOf}
 use Rattle.shortfall.specs.Strike.{rowShort}
@@ -14,7 +18,7 @@ add-sum g c = record { fits = omega (arith, c .loop-row .inv .1, c .from-sum .en
 
 pub loop-row-again : need.loop-row-again
 loop-row-again g c =
-    let f = rowShort (g .M·Measure .meaning (c .args .m .now)) (c .args .tables) in (
+    let f : QseRow → ℕ = λ q. rowShort (g .M·Measure .meaning (c .args .m .now)) (plainTables (c .args .tables)) (plainQse q) in (
       sum-turn f (c .args .rows .now) _ (c .row-item .result) (c .loop-row-test .taken) (c .row-item .is) (c .loop-row .inv .0) (c .from-sum .ensures ∙ c .short-of .ensures .value),
       omega (arith, c .loop-row .inv .1, c .from-sum .ensures, c .short-of .ensures .small),
     )
@@ -23,11 +27,13 @@ pub returns : need.returns
 returns g c =
     let mm = c .args .m .now in
     let m = g .M·Measure .meaning mm in
-    let t = c .args .tables in
+    let t = plainTables (c .args .tables) in
     let laws = g .M·Measure·met in
-    let sum = sum-all (rowShort m t) (c .args .rows .now) _ (c .loop-row-test .left) (c .loop-row .inv .0) ∙ sym (sum-map (shortfallOf m) (λ q. rowOwn q t) (c .args .rows .now)) in
+    let qs = map plainQse (c .args .rows .now) in
+    let sum = sum-all (λ q. rowShort m t (plainQse q)) (c .args .rows .now) _ (c .loop-row-test .left) (c .loop-row .inv .0)
+    ∙ sym (sum-map (shortfallOf m) (λ q. qseOwn q t) qs ∙ sum-map (rowShort m t) plainQse (c .args .rows .now)) in
     record {
       sum = sum;
-      pool = sum-covers-pool (laws .order mm) (laws .pool mm) (laws .nothing mm) t (c .args .rows .now) _ sum;
-      bounded = pool-bounded (laws .bound mm) t (c .args .rows .now);
+      pool = sum-covers-pool (laws .order mm) (laws .pool mm) (laws .nothing mm) t qs _ sum;
+      bounded = pool-bounded (laws .bound mm) (c .args .tables) (c .args .rows .now);
     }

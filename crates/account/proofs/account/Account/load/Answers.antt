@@ -1,8 +1,11 @@
 use mathlib.Core.Path.{sym, _∙_}
+use mathlib.Core.List.{map}
 use native.Mathlib.Omega.{arith}
+use Rattle.std.specs.shelf.Lists.{kept-by}
+use Rattle.rows.specs.Rows.{plainLoad}
 use Rattle.account.specs.Account.{loadIn}
 use Rattle.account.specs.Own.{ownsLoad}
-use Rattle.account.proofs.Rows.{sum-turn, sum-all, sum-kept}
+use Rattle.account.proofs.Rows.{sum-turn, sum-all, sum-map, sum-plain}
 use Rattle.account.proofs.account.Account.load.Needs as need
 
 pub loop-l-again : need.loop-l-again
@@ -14,6 +17,6 @@ pub returns : need.returns
 returns c =
     let a = c .args .self .now in
     record {
-      value = sum-all (loadIn (a .qse)) (a .loads .now) _ (c .loop-l-test .left) (c .loop-l .inv .0) ∙ sym (sum-kept (λ kwh. kwh) (λ l. l .kwh) (ownsLoad (a .qse)) (a .loads .now));
+      value = sum-all (loadIn (a .qse)) (a .loads .now) _ (c .loop-l-test .left) (c .loop-l .inv .0) ∙ sym (sum-map (λ kwh. kwh) (λ l. l .kwh) (kept-by (ownsLoad (a .qse)) (map plainLoad (a .loads .now))) ∙ sum-plain (λ l. l .kwh) plainLoad (ownsLoad (a .qse)) (a .loads .now));
       small = omega (arith, c .loop-l .inv .1, c .loop-l .kept .l-index-end, a .few .0);
     }
