@@ -1,0 +1,11 @@
+pub mod Base
+pub mod Step
+pub mod Serve
+pub mod Duality
+pub mod Nine
+pub mod Laws
+pub mod Chains
+pub mod Finish
+pub mod Family
+pub mod SubTypeLawful
+pub mod Parents

@@ -1,0 +1,6 @@
+pub mod Sources
+pub mod Cover
+pub mod Laws
+pub mod Chains
+pub mod SubType
+pub mod Parents
