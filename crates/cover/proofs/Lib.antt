@@ -1,0 +1,6 @@
+pub mod SetSums
+pub mod LimitSteps
+pub mod PairTable
+pub mod ServedPairs
+pub mod ReachSums
+pub mod CoverSteps

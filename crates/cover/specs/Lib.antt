@@ -1,0 +1,4 @@
+pub mod Sets
+pub mod Amounts
+pub mod Covered
+pub mod Given
