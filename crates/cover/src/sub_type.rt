@@ -57,6 +57,9 @@ pub impl Measure for SubType as SubTypeMeasure {
         let asked = asked_of(&standing.positions);
         let given = Given::of(a);
         let wanted = wanted(standing.load, &asked.figures, given.offline);
-        overall(wanted, given.supply, standing.net, standing.storage_net).max(lack_of(&given.reached, &asked))
+        overall(wanted, given.supply, standing.net, standing.storage_net).max(lack_of(
+            &given.reached,
+            &asked,
+        ))
     }
 }
