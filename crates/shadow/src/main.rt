@@ -1,8 +1,11 @@
 // shadow: what one interval will cost each QSE, before the operator's statement arrives.
+mod charge;
 mod desk;
 mod input;
+mod names;
 mod refusal;
 mod report;
+mod side;
 
 use crate::refusal::RefusalDisplay;
 use desk::Desk;
@@ -26,7 +29,7 @@ fn main(rt: LibcRuntime) -> io::Result<()> {
             println!(rt, "line {number} {refusal}")?;
         }
     }
-    report(&rt, &mut desk)
+    report(&rt, &desk)
 }
 
 // One line of the input: a row entered, the cost set, or nothing.
