@@ -14,7 +14,12 @@ use rows::qse::QseRow;
 use shortfall::strike::write_shortfalls;
 use std::io;
 
-pub fn charge<'a>(rt: &LibcRuntime, rows: &[QseRow], tables: Tables<'a>, pot: u32) -> io::Result<()> {
+pub fn charge<'a>(
+    rt: &LibcRuntime,
+    rows: &[QseRow],
+    tables: Tables<'a>,
+    pot: u32,
+) -> io::Result<()> {
     report_charge(rt, "grouped", &Grouped {}, rows, tables, pot)?;
     report_charge(rt, "subtype", &SubType {}, rows, tables, pot)
 }
@@ -25,7 +30,14 @@ fn settle<M: Measure>(m: &M, rows: &mut [QseRow], tables: Tables, pot: u32) -> R
     divide(rows, pot)
 }
 
-fn report_charge<M: Measure>(rt: &LibcRuntime, edition: &str, m: &M, rows: &[QseRow], tables: Tables, pot: u32) -> io::Result<()> {
+fn report_charge<M: Measure>(
+    rt: &LibcRuntime,
+    edition: &str,
+    m: &M,
+    rows: &[QseRow],
+    tables: Tables,
+    pot: u32,
+) -> io::Result<()> {
     let mut own = rows.to_vec(rt.alloc())?;
     match settle(m, own.as_mut_slice(), tables, pot) {
         Err(fault) => {

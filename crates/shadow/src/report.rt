@@ -16,7 +16,11 @@ use std::io;
 
 // Each QSE on both sides under both editions, the totals, and the division of the cost.
 pub fn report(rt: &LibcRuntime, desk: &Desk) -> io::Result<()> {
-    let found = Tables::new(desk.loads.as_slice(), desk.resources.as_slice(), desk.trades.as_slice());
+    let found = Tables::new(
+        desk.loads.as_slice(),
+        desk.resources.as_slice(),
+        desk.trades.as_slice(),
+    );
     let Some(tables) = found else {
         return println!(rt, "too many rows");
     };
@@ -36,8 +40,18 @@ fn report_qses<'a>(rt: &LibcRuntime, rows: &'a [QseRow], tables: Tables<'a>) -> 
     for row in rows {
         let number = row.number;
         println!(rt, "qse {number}")?;
-        report_side(rt, "snapshot", &Account::new(row, Side::Snapshot, tables), table.as_mut_slice())?;
-        report_side(rt, "adjusted", &Account::new(row, Side::Adjusted, tables), table.as_mut_slice())?;
+        report_side(
+            rt,
+            "snapshot",
+            &Account::new(row, Side::Snapshot, tables),
+            table.as_mut_slice(),
+        )?;
+        report_side(
+            rt,
+            "adjusted",
+            &Account::new(row, Side::Adjusted, tables),
+            table.as_mut_slice(),
+        )?;
         let grouped = short_of(&Grouped {}, row, tables);
         let sub_type = short_of(&SubType {}, row, tables);
         println!(rt, "  shortfall grouped {grouped} subtype {sub_type}")?;

@@ -11,7 +11,12 @@ use measure::grouped_parts::break_down;
 use measure::measure::Measure;
 use std::io;
 
-pub fn report_side(rt: &LibcRuntime, side: &str, a: &Account, table: &mut [[u32; 14]]) -> io::Result<()> {
+pub fn report_side(
+    rt: &LibcRuntime,
+    side: &str,
+    a: &Account,
+    table: &mut [[u32; 14]],
+) -> io::Result<()> {
     let parts = break_down(a);
     let load = parts.load;
     let net = parts.net;
@@ -23,20 +28,34 @@ pub fn report_side(rt: &LibcRuntime, side: &str, a: &Account, table: &mut [[u32;
         Ok(reserve) => {
             println!(rt, "    subtype reserve {reserve} value {value}")?;
             report_cover(rt, a, table)?;
-            if reserve > 0 { report_binding(rt, a) } else { Ok(()) }
+            if reserve > 0 {
+                report_binding(rt, a)
+            } else {
+                Ok(())
+            }
         }
     }
 }
 
 fn report_grouped(rt: &LibcRuntime, parts: &Breakdown) -> io::Result<()> {
-    let Breakdown { load: _, net: _, overall, levels, reserve, value } = *parts;
+    let Breakdown {
+        load: _,
+        net: _,
+        overall,
+        levels,
+        reserve,
+        value,
+    } = *parts;
     let reg_up = levels.reg_up;
     let rrs = levels.rrs;
     let fast = levels.fast;
     let ecrs = levels.with_ecrs;
     let upward = levels.upward;
     let reg_down = levels.reg_down;
-    println!(rt, "    grouped overall {overall} levels {reg_up} {rrs} {fast} {ecrs} {upward} {reg_down} reserve {reserve} value {value}")
+    println!(
+        rt,
+        "    grouped overall {overall} levels {reg_up} {rrs} {fast} {ecrs} {upward} {reg_down} reserve {reserve} value {value}"
+    )
 }
 
 // A line for each unit of the QSE, counted from 1, that serves a reserve.
@@ -68,7 +87,10 @@ fn report_unit(rt: &LibcRuntime, unit: usize, amounts: &[u32; 14]) -> io::Result
 fn report_binding(rt: &LibcRuntime, a: &Account) -> io::Result<()> {
     let binding = binding_set(a);
     let lack = binding.lack;
-    print!(rt, "    short of reserves by {lack} kW: the services that bind are")?;
+    print!(
+        rt,
+        "    short of reserves by {lack} kW: the services that bind are"
+    )?;
     for (place, binds) in binding.services.iter().enumerate() {
         if *binds {
             let service = name_of(place);

@@ -1,0 +1,3 @@
+// Worked cases, each of which is run.
+#[cfg(test)]
+mod covers;
