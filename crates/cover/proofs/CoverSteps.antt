@@ -43,19 +43,24 @@ empty-only k lk e = digits k lk (first-zero (k % 2) (parts .0)) (first-zero (k /
   where
     small2 : (x : ℕ) → x < 2 → x % 2 ≡ 0 → x ≡ 0
     small2 x h e = omega arith
+
     small3 : (x : ℕ) → x < 3 → x % 3 ≡ 0 → x ≡ 0
     small3 x h e = omega arith
+
     small4 : (x : ℕ) → x < 4 → x % 4 ≡ 0 → x ≡ 0
     small4 x h e = omega arith
+
     digits : (k : ℕ) → k < 144 → k % 2 ≡ 0 → k / 2 % 2 ≡ 0 → k / 4 % 4 ≡ 0 → k / 16 % 3 ≡ 0 → k / 48 % 3 ≡ 0 → k ≡ 0
     digits k lk a b c d e =
-      let h48 : k / 48 ≡ 0 = small3 (k / 48) (omega arith) e in
-      let h16 : k / 16 ≡ 0 = small3 (k / 16) (omega arith) d in
-      let h4 : k / 4 ≡ 0 = small4 (k / 4) (omega arith) c in
-      let h2 : k / 2 ≡ 0 = small2 (k / 2) (omega arith) b in
-      small2 k (omega arith) a
+        let h48 : k / 48 ≡ 0 = small3 (k / 48) (omega arith) e in
+        let h16 : k / 16 ≡ 0 = small3 (k / 16) (omega arith) d in
+        let h4 : k / 4 ≡ 0 = small4 (k / 4) (omega arith) c in
+        let h2 : k / 2 ≡ 0 = small2 (k / 2) (omega arith) b in
+        small2 k (omega arith) a
+
     nine : (a b c d e f g h i : ℕ) → 0 + a + b + c + d + e + f + g + h + i ≡ 0 → (a ≡ 0) × (b ≡ 0) × (c ≡ 0) × (f ≡ 0) × (h ≡ 0)
     nine a b c d e f g h i z = (omega arith, omega arith, omega arith, omega arith, omega arith)
+
     parts : (cond (ltb 0 (k % 2)) 1 0 ≡ zero) × (cond (ltb 0 (k / 2 % 2)) 1 0 ≡ zero) × (cond (ltb 0 (k / 4 % 4)) 1 0 ≡ zero) × (cond (ltb 0 (k / 16 % 3)) 1 0 ≡ zero) × (cond (ltb 0 (k / 48 % 3)) 1 0 ≡ zero)
     parts = nine _ _ _ _ _ _ _ _ _ e
 
@@ -160,36 +165,43 @@ pub record Covers (u : ℕ) (done todo : List Source) (p : ℕ → ℕ) (rest le
 covers-none : (u : ℕ) (ls : List Source) (p : ℕ → ℕ) (left tab rest : List ℕ) → Table tab ls → Under 15360000000 tab → ((k : ℕ) → k < 9 → at left k ≡ p k) → u ≡ lackTo 144 tab left → u ≤ 46170000000
     → length rest ≡ 144 → getD rest 0 0 ≡ getD tab 0 0 → ((k : ℕ) → k < 144 → 0 < k → getD rest k 0 ≡ getD tab k 0 + u) → Covers u [] ls p rest left []
 covers-none u ls p left tab rest t few agree e le len none more =
-  let w : u ≡ greatestLack 9 Pair ls p = lack-is ls tab left p u t agree e in
-  record {
-    table = λ k lk. ⊎-elim
-      (λ pos. add (getD rest k 0) (getD tab k 0) u _ _ (more k lk pos) (t k lk) (budget-some u k lk pos))
-      (λ z. subst (λ (i : ℕ). getD rest i 0 ≡ reachAll 9 (budget 9 Pair u ∷ ls) (mem i)) (sym (is-zero k z)) (add0 (getD rest 0 0) (getD tab 0 0) _ _ none (t 0 (lit< tt)) (budget-none u)))
-      (cases-lt 0 k);
-    long = len;
-    small = under-all rest 144 70000000000 len (λ k lk. ⊎-elim (λ pos. far (getD rest k 0) (getD tab k 0) u (more k lk pos) (few k) le)
-        (λ z. subst (λ (i : ℕ). getD rest i 0 ≤ 70000000000) (sym (is-zero k z)) (far0 (getD rest 0 0) (getD tab 0 0) none (few 0))) (cases-lt 0 k));
-    hall = λ A cl. ⊎-elim
-      (λ s. join (sumIn 9 A (at left)) (sumIn 9 A p) (reachAll 9 ls A) (greatestLack 9 Pair ls p) u (sumIn 9 A (λ k. u)) (sum-same A (at left) p agree) (lack-all 9 Pair pair-trans pair-refl ls p A cl) w s)
-      (λ s. under (sumIn 9 A (at left)) _ s) (some-or-none 9 Pair 9 u A (at left));
-    fits = tt;
-    gets = λ q lq. same0 (at left q) (p q) (agree q lq);
-  }
+    let w : u ≡ greatestLack 9 Pair ls p = lack-is ls tab left p u t agree e in
+    record {
+      table = λ k lk. ⊎-elim
+          (λ pos. add (getD rest k 0) (getD tab k 0) u _ _ (more k lk pos) (t k lk) (budget-some u k lk pos))
+          (λ z. subst (λ (i : ℕ). getD rest i 0 ≡ reachAll 9 (budget 9 Pair u ∷ ls) (mem i)) (sym (is-zero k z)) (add0 (getD rest 0 0) (getD tab 0 0) _ _ none (t 0 (lit< tt)) (budget-none u)))
+          (cases-lt 0 k);
+      long = len;
+      small = under-all rest 144 70000000000 len (λ k lk. ⊎-elim (λ pos. far (getD rest k 0) (getD tab k 0) u (more k lk pos) (few k) le)
+          (λ z. subst (λ (i : ℕ). getD rest i 0 ≤ 70000000000) (sym (is-zero k z)) (far0 (getD rest 0 0) (getD tab 0 0) none (few 0))) (cases-lt 0 k));
+      hall = λ A cl. ⊎-elim
+          (λ s. join (sumIn 9 A (at left)) (sumIn 9 A p) (reachAll 9 ls A) (greatestLack 9 Pair ls p) u (sumIn 9 A (λ k. u)) (sum-same A (at left) p agree) (lack-all 9 Pair pair-trans pair-refl ls p A cl) w s)
+          (λ s. under (sumIn 9 A (at left)) _ s) (some-or-none 9 Pair 9 u A (at left));
+      fits = tt;
+      gets = λ q lq. same0 (at left q) (p q) (agree q lq);
+    }
   where
     add : (r t u b a : ℕ) → r ≡ t + u → t ≡ a → b ≡ u → r ≡ b + a
     add r t u b a e f g = omega arith
+
     add0 : (r t b a : ℕ) → r ≡ t → t ≡ a → b ≡ 0 → r ≡ b + a
     add0 r t b a e f g = omega arith
+
     is-zero : (k : ℕ) → k ≤ 0 → k ≡ 0
     is-zero k h = omega arith
+
     far : (r t u : ℕ) → r ≡ t + u → t ≤ 15360000000 → u ≤ 46170000000 → r ≤ 70000000000
     far r t u e h g = omega arith
+
     far0 : (r t : ℕ) → r ≡ t → t ≤ 15360000000 → r ≤ 70000000000
     far0 r t e h = omega arith
+
     same0 : (a b : ℕ) → a ≡ b → 0 + a ≡ b
     same0 a b e = omega arith
+
     join : (m m′ r w u s : ℕ) → m ≡ m′ → m′ ≤ r + w → u ≡ w → u ≤ s → m ≤ min u s + r
     join m m′ r w u s e′ h e g = omega arith
+
     under : (m x : ℕ) → m ≡ 0 → m ≤ x
     under m x e = omega arith
 
@@ -223,44 +235,48 @@ module _ (u : ℕ) (done todo : List Source) (r : LineRow) (m : Source) (room : 
       → Served rest′ (r .room) (r .capability) left left′ row → Covers u (done ++ (m ∷ [])) todo p rest′ left′ (xs ++ (amountsOf row ∷ []))
   unfolding sumTo
   covers-next rest′ left′ row len tk sv =
-    let tab : Table rest′ (budget 9 Pair u ∷ todo) = λ k lk. less′ (getD rest k 0) (getD rest′ k 0) (reach 9 (budget 9 Pair u) (mem k)) (reach 9 l (mem k)) (reach 9 m (mem k)) (reachAll 9 todo (mem k)) (same-reach (mem k)) (tk k lk) (c .table k lk) in
-    record {
-      table = tab;
-      long = len;
-      small = under-all rest′ 144 70000000000 len (λ k lk. lower (getD rest′ k 0) (getD rest k 0) _ (tk k lk) (c .small k));
-      hall = sv .serves (budget 9 Pair u ∷ todo) tab (λ A cl. turn (sumIn 9 A (at left)) (reach 9 (budget 9 Pair u) A) (reach 9 l A) (reach 9 m A) (reachAll 9 todo A) (same-reach A) (c .hall A cl));
-      fits = fits-more 9 Pair done xs m (amountsOf row) (c .fits) (fits-source (amountsOf row) (sv .fits));
-      gets = λ q lq. sum (gotAll 9 Pair (xs ++ (amountsOf row ∷ [])) q) (gotAll 9 Pair xs q) (got 9 Pair (amountsOf row) q) (at left′ q) (at left q) (p q) (got-more 9 Pair xs (amountsOf row) q) (sv .gets q lq) (c .gets q lq);
-    }
+      let tab : Table rest′ (budget 9 Pair u ∷ todo) = λ k lk. less′ (getD rest k 0) (getD rest′ k 0) (reach 9 (budget 9 Pair u) (mem k)) (reach 9 l (mem k)) (reach 9 m (mem k)) (reachAll 9 todo (mem k)) (same-reach (mem k)) (tk k lk) (c .table k lk) in
+      record {
+        table = tab;
+        long = len;
+        small = under-all rest′ 144 70000000000 len (λ k lk. lower (getD rest′ k 0) (getD rest k 0) _ (tk k lk) (c .small k));
+        hall = sv .serves (budget 9 Pair u ∷ todo) tab (λ A cl. turn (sumIn 9 A (at left)) (reach 9 (budget 9 Pair u) A) (reach 9 l A) (reach 9 m A) (reachAll 9 todo A) (same-reach A) (c .hall A cl));
+        fits = fits-more 9 Pair done xs m (amountsOf row) (c .fits) (fits-source (amountsOf row) (sv .fits));
+        gets = λ q lq. sum (gotAll 9 Pair (xs ++ (amountsOf row ∷ [])) q) (gotAll 9 Pair xs q) (got 9 Pair (amountsOf row) q) (at left′ q) (at left q) (p q) (got-more 9 Pair xs (amountsOf row) q) (sv .gets q lq) (c .gets q lq);
+      }
     where
       less′ : (r r′ b l l′ t : ℕ) → l ≡ l′ → r′ ≡ r - l → r ≡ b + (l′ + t) → r′ ≡ b + t
       less′ r r′ b l l′ t s e f = omega arith
+
       lower : (r′ r l : ℕ) → r′ ≡ r - l → r ≤ 70000000000 → r′ ≤ 70000000000
       lower r′ r l e h = omega arith
+
       turn : (m b l l′ t : ℕ) → l ≡ l′ → m ≤ b + (l′ + t) → m ≤ l + (b + t)
       turn m b l l′ t s h = omega arith
+
       sum : (a g x l′ l p : ℕ) → a ≡ g + x → x + l′ ≡ l → g + l ≡ p → a + l′ ≡ p
       sum a g x l′ l p e f h = omega arith
 
 covers-end : (v : View) (u : ℕ) (p′ tab rest left : List ℕ) (out out′ : List (List ℕ)) → Table tab (sources (v .lines)) → ((k : ℕ) → k < 9 → at p′ k ≡ demand v k) → u ≡ lackTo 144 tab p′
     → length (v .lines) ≤ length out → Covers u (sources (v .lines)) [] (demand v) rest left (amountsAll (take (length (v .lines)) out′)) → drop (length (v .lines)) out′ ≡ drop (length (v .lines)) out → CoveredBy v out out′ u
 covers-end v u p′ tab rest left out out′ t agree e space c kept =
-  let p : ℕ → ℕ = demand v in
-  let least : LeastUncovered v u = least-is v tab p′ u t agree e in
-  let xs : List Amounts = amountsAll (take (length (v .lines)) out′) in
-  let cov : Cover 9 Pair (sources (v .lines)) p xs = record { fits = c .fits; under = λ q lq. part (gotAll 9 Pair xs q) (at left q) (p q) (c .gets q lq) } in
-  let split : sumBelow 9 (gotAll 9 Pair xs) + sumBelow 9 (at left) ≡ sumBelow 9 p = sym (sumBelow-add 9 (gotAll 9 Pair xs) (at left)) ∙ sumBelow-cong 9 (λ q. gotAll 9 Pair xs q + at left q) p (c .gets) in
-  record {
-    space = space;
-    covers = cov;
-    total = total (sumBelow 9 p) (sumBelow 9 (gotAll 9 Pair xs)) (sumBelow 9 (at left)) (sumIn 9 (λ k. true) (at left)) u _ split (all-below 9 (at left)) (c .hall (λ k. true) (λ j q a b. tt)) (least .least xs cov);
-    least = least;
-    value = reserve-is v tab p′ u t agree e;
-    later = kept;
-  }
+    let p : ℕ → ℕ = demand v in
+    let least : LeastUncovered v u = least-is v tab p′ u t agree e in
+    let xs : List Amounts = amountsAll (take (length (v .lines)) out′) in
+    let cov : Cover 9 Pair (sources (v .lines)) p xs = record { fits = c .fits; under = λ q lq. part (gotAll 9 Pair xs q) (at left q) (p q) (c .gets q lq) } in
+    let split : sumBelow 9 (gotAll 9 Pair xs) + sumBelow 9 (at left) ≡ sumBelow 9 p = sym (sumBelow-add 9 (gotAll 9 Pair xs) (at left)) ∙ sumBelow-cong 9 (λ q. gotAll 9 Pair xs q + at left q) p (c .gets) in
+    record {
+      space = space;
+      covers = cov;
+      total = total (sumBelow 9 p) (sumBelow 9 (gotAll 9 Pair xs)) (sumBelow 9 (at left)) (sumIn 9 (λ k. true) (at left)) u _ split (all-below 9 (at left)) (c .hall (λ k. true) (λ j q a b. tt)) (least .least xs cov);
+      least = least;
+      value = reserve-is v tab p′ u t agree e;
+      later = kept;
+    }
   where
     part : (a b c : ℕ) → a + b ≡ c → a ≤ c
     part a b c e = omega arith
+
     total : (tp tg tl m u s : ℕ) → tg + tl ≡ tp → m ≡ tl → m ≤ min u s + 0 → u ≤ tp - tg → tp - tg ≡ u
     total tp tg tl m u s e f h g = omega arith
 
@@ -292,17 +308,17 @@ module _ (i n u : ℕ) (a : Account) (rest left : List ℕ) (out out′ : List (
 
   pub filing-skip : ownsResource (a .qse) (plainResource d) ≡ false → Filing (i + 1) n u a rest left out out′
   filing-skip e =
-    let p : ℕ → ℕ = demand (accountView a) in
-    let x : owned a (take (i + 1) rows) ≡ owned a (take i rows) = took-none a rows i d lt read e in
-    let y : owned a (drop i rows) ≡ owned a (drop (i + 1) rows) = left-none a rows i d lt read e in
-    record {
-      covers = subst (λ (ls : List Source). Covers u ls (owned a (drop (i + 1) rows)) p rest left (amountsAll (take n out′))) (sym x)
-        (subst (λ (ls : List Source). Covers u (owned a (take i rows)) ls p rest left (amountsAll (take n out′))) y (f .covers));
-      count = f .count ∙ ap length (sym x);
-      total = ap (λ (ls : List Source). length ls + length (owned a (drop (i + 1) rows))) x ∙ ap (λ (ls : List Source). length (owned a (take i rows)) + length ls) (sym y) ∙ f .total;
-      later = f .later;
-      space = f .space;
-    }
+      let p : ℕ → ℕ = demand (accountView a) in
+      let x : owned a (take (i + 1) rows) ≡ owned a (take i rows) = took-none a rows i d lt read e in
+      let y : owned a (drop i rows) ≡ owned a (drop (i + 1) rows) = left-none a rows i d lt read e in
+      record {
+        covers = subst (λ (ls : List Source). Covers u ls (owned a (drop (i + 1) rows)) p rest left (amountsAll (take n out′))) (sym x)
+            (subst (λ (ls : List Source). Covers u (owned a (take i rows)) ls p rest left (amountsAll (take n out′))) y (f .covers));
+        count = f .count ∙ ap length (sym x);
+        total = ap (λ (ls : List Source). length ls + length (owned a (drop (i + 1) rows))) x ∙ ap (λ (ls : List Source). length (owned a (take i rows)) + length ls) (sym y) ∙ f .total;
+        later = f .later;
+        space = f .space;
+      }
 
   module _ (e : ownsResource (a .qse) (plainResource d) ≡ true) (r : LineRow) (is : IsLine r (lineOf (a .side) (plainResource d))) where
     at-line : Covers u (owned a (take i rows)) (sourceAt a d ∷ owned a (drop (i + 1) rows)) (demand (accountView a)) rest left (amountsAll (take n out′))
@@ -321,40 +337,42 @@ module _ (i n u : ℕ) (a : Account) (rest left : List ℕ) (out out′ : List (
         → ((k : ℕ) → k < 144 → getD rest′ k 0 ≡ getD rest k 0 - min (r .room) (sumTo 9 k (r .capability)))
         → Served rest′ (r .room) (r .capability) left left′ row → Filing (i + 1) (n + 1) u a rest′ left′ out (set out′ n row)
     filing-next rest′ left′ row len tk sv =
-      let p : ℕ → ℕ = demand (accountView a) in
-      let lines : ℕ = length (accountView a .lines) in
-      let x : owned a (take (i + 1) rows) ≡ owned a (take i rows) ++ (sourceAt a d ∷ []) = took-one a rows i d lt read e in
-      let y : owned a (drop i rows) ≡ sourceAt a d ∷ owned a (drop (i + 1) rows) = left-one a rows i d lt read e in
-      let long : length (owned a (take (i + 1) rows)) ≡ length (owned a (take i rows)) + 1 = ap length x ∙ length-append (owned a (take i rows)) (sourceAt a d ∷ []) in
-      record {
-        covers = subst (λ (ls : List Source). Covers u ls (owned a (drop (i + 1) rows)) p rest′ left′ (amountsAll (take (n + 1) (set out′ n row)))) (sym x)
-          (subst (λ (xs : List Amounts). Covers u (owned a (take i rows) ++ (sourceAt a d ∷ [])) (owned a (drop (i + 1) rows)) p rest′ left′ xs)
-            (sym (amounts-next out′ n row (within n lines (length out′) filing-room (f .space))))
-            (covers-next u (owned a (take i rows)) (owned a (drop (i + 1) rows)) r (sourceAt a d) (is .room) (is .capability) p rest left (amountsAll (take n out′)) at-line rest′ left′ row len tk sv));
-        count = plus n (length (owned a (take i rows))) (length (owned a (take (i + 1) rows))) (f .count) long;
-        total = sums (length (owned a (take i rows))) (length (owned a (take (i + 1) rows))) (length (owned a (drop i rows))) (length (owned a (drop (i + 1) rows))) lines long (ap length y) (f .total);
-        later = drop-set-lt lines out′ n row filing-room ∙ f .later;
-        space = subst (λ (m : ℕ). lines ≤ m) (sym (length-set out′ n row)) (f .space);
-      }
+        let p : ℕ → ℕ = demand (accountView a) in
+        let lines : ℕ = length (accountView a .lines) in
+        let x : owned a (take (i + 1) rows) ≡ owned a (take i rows) ++ (sourceAt a d ∷ []) = took-one a rows i d lt read e in
+        let y : owned a (drop i rows) ≡ sourceAt a d ∷ owned a (drop (i + 1) rows) = left-one a rows i d lt read e in
+        let long : length (owned a (take (i + 1) rows)) ≡ length (owned a (take i rows)) + 1 = ap length x ∙ length-append (owned a (take i rows)) (sourceAt a d ∷ []) in
+        record {
+          covers = subst (λ (ls : List Source). Covers u ls (owned a (drop (i + 1) rows)) p rest′ left′ (amountsAll (take (n + 1) (set out′ n row)))) (sym x)
+              (subst (λ (xs : List Amounts). Covers u (owned a (take i rows) ++ (sourceAt a d ∷ [])) (owned a (drop (i + 1) rows)) p rest′ left′ xs)
+              (sym (amounts-next out′ n row (within n lines (length out′) filing-room (f .space))))
+              (covers-next u (owned a (take i rows)) (owned a (drop (i + 1) rows)) r (sourceAt a d) (is .room) (is .capability) p rest left (amountsAll (take n out′)) at-line rest′ left′ row len tk sv));
+          count = plus n (length (owned a (take i rows))) (length (owned a (take (i + 1) rows))) (f .count) long;
+          total = sums (length (owned a (take i rows))) (length (owned a (take (i + 1) rows))) (length (owned a (drop i rows))) (length (owned a (drop (i + 1) rows))) lines long (ap length y) (f .total);
+          later = drop-set-lt lines out′ n row filing-room ∙ f .later;
+          space = subst (λ (m : ℕ). lines ≤ m) (sym (length-set out′ n row)) (f .space);
+        }
       where
         within : (i n m : ℕ) → i < n → n ≤ m → i < m
         within i n m h g = omega arith
+
         plus : (n a b : ℕ) → n ≡ a → b ≡ a + 1 → n + 1 ≡ b
         plus n a b e f = omega arith
+
         sums : (a a′ b c t : ℕ) → a′ ≡ a + 1 → b ≡ suc c → a + b ≡ t → a′ + c ≡ t
         sums a a′ b c t e f g = omega arith
 
 pub filing-end : (i n u : ℕ) (a : Account) (p′ tab rest left : List ℕ) (out out′ : List (List ℕ)) → i ≤ length (a .resources .now) → length (a .resources .now) ≤ i → Table tab (sources (accountView a .lines))
     → ((k : ℕ) → k < 9 → at p′ k ≡ demand (accountView a) k) → u ≡ lackTo 144 tab p′ → length (accountView a .lines) ≤ length out → Filing i n u a rest left out out′ → CoveredBy (accountView a) out out′ u
 filing-end i n u a p′ tab rest left out out′ h1 h2 t agree e space f =
-  let rows : List ResourceRow = a .resources .now in
-  let p : ℕ → ℕ = demand (accountView a) in
-  let x : owned a (take i rows) ≡ owned a rows = ap (owned a) (take-all i rows h2) in
-  let y : owned a (drop i rows) ≡ [] = ap (λ (m : ℕ). owned a (drop m rows)) (both i (length rows) h1 h2) ∙ ap (owned a) (drop-length rows) in
-  covers-end (accountView a) u p′ tab rest left out out′ t agree e space
+    let rows : List ResourceRow = a .resources .now in
+    let p : ℕ → ℕ = demand (accountView a) in
+    let x : owned a (take i rows) ≡ owned a rows = ap (owned a) (take-all i rows h2) in
+    let y : owned a (drop i rows) ≡ [] = ap (λ (m : ℕ). owned a (drop m rows)) (both i (length rows) h1 h2) ∙ ap (owned a) (drop-length rows) in
+    covers-end (accountView a) u p′ tab rest left out out′ t agree e space
     (subst (λ (m : ℕ). Covers u (owned a rows) [] p rest left (amountsAll (take m out′))) (f .count ∙ ap length x ∙ length-map (accountView a .lines) source)
-      (subst (λ (ls : List Source). Covers u (owned a rows) ls p rest left (amountsAll (take n out′))) y
-        (subst (λ (ls : List Source). Covers u ls (owned a (drop i rows)) p rest left (amountsAll (take n out′))) x (f .covers))))
+    (subst (λ (ls : List Source). Covers u (owned a rows) ls p rest left (amountsAll (take n out′))) y
+    (subst (λ (ls : List Source). Covers u ls (owned a (drop i rows)) p rest left (amountsAll (take n out′))) x (f .covers))))
     (f .later)
   where
     both : (a b : ℕ) → a ≤ b → b ≤ a → a ≡ b
@@ -363,7 +381,7 @@ filing-end i n u a p′ tab rest left out out′ h1 h2 t agree e space f =
 pub filing-same : (i n n′ u : ℕ) (a : Account) (rest rest′ left left′ : List ℕ) (out o o′ : List (List ℕ)) → n′ ≡ n → rest′ ≡ rest → left′ ≡ left → o′ ≡ o
     → Filing i n u a rest left out o → Filing i n′ u a rest′ left′ out o′
 filing-same i n n′ u a rest rest′ left left′ out o o′ en er el eo f =
-  subst (λ (x : ℕ). Filing i x u a rest′ left′ out o′) (sym en)
+    subst (λ (x : ℕ). Filing i x u a rest′ left′ out o′) (sym en)
     (subst (λ (x : List ℕ). Filing i n u a x left′ out o′) (sym er)
-      (subst (λ (x : List ℕ). Filing i n u a rest x out o′) (sym el)
-        (subst (λ (x : List (List ℕ)). Filing i n u a rest left out x) (sym eo) f)))
+    (subst (λ (x : List ℕ). Filing i n u a rest x out o′) (sym el)
+    (subst (λ (x : List (List ℕ)). Filing i n u a rest left out x) (sym eo) f)))

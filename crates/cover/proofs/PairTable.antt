@@ -23,16 +23,63 @@ at-pair P (x ∷ ts) a (suc t) lt = at-pair P ts (a .1) t (omega arith)
 
 pub pair-good : (t : ℕ) → t < 14 → (capAt t < 9) × (posAt t < 9) × T (Pair (capAt t) (posAt t))
 unfolding capAt posAt
-pair-good t lt = at-pair (λ j q. (j < 9) × (q < 9) × T (Pair j q)) pairs
-  ((lit< tt, lit< tt, tt), ((lit< tt, lit< tt, tt), ((lit< tt, lit< tt, tt), ((lit< tt, lit< tt, tt), ((lit< tt, lit< tt, tt), ((lit< tt, lit< tt, tt), ((lit< tt, lit< tt, tt),
-   ((lit< tt, lit< tt, tt), ((lit< tt, lit< tt, tt), ((lit< tt, lit< tt, tt), ((lit< tt, lit< tt, tt), ((lit< tt, lit< tt, tt), ((lit< tt, lit< tt, tt), ((lit< tt, lit< tt, tt), tt)))))))))))))) t lt
+pair-good t lt = at-pair (λ j q. (j < 9) × (q < 9) × T (Pair j q)) pairs (
+  (lit< tt, lit< tt, tt),
+  (
+    (lit< tt, lit< tt, tt),
+    (
+      (lit< tt, lit< tt, tt),
+      (
+        (lit< tt, lit< tt, tt),
+        (
+          (lit< tt, lit< tt, tt),
+          (
+            (lit< tt, lit< tt, tt),
+            (
+              (lit< tt, lit< tt, tt),
+              ((lit< tt, lit< tt, tt), ((lit< tt, lit< tt, tt), ((lit< tt, lit< tt, tt), ((lit< tt, lit< tt, tt), ((lit< tt, lit< tt, tt), ((lit< tt, lit< tt, tt), ((lit< tt, lit< tt, tt), tt))))))),
+            ),
+          ),
+        ),
+      ),
+    ),
+  ),
+) t lt
 
 -- what holds at each number holds at each pair
 pub all-pairs : (P : ℕ → ℕ → Type 0) → ((t : ℕ) → t < 14 → P (capAt t) (posAt t)) → (j q : ℕ) → T (Pair j q) → P j q
 unfolding capAt posAt
-all-pairs P f = from-all P pairs
-  (f 0 (lit< tt), (f 1 (lit< tt), (f 2 (lit< tt), (f 3 (lit< tt), (f 4 (lit< tt), (f 5 (lit< tt), (f 6 (lit< tt), (f 7 (lit< tt), (f 8 (lit< tt), (f 9 (lit< tt),
-   (f 10 (lit< tt), (f 11 (lit< tt), (f 12 (lit< tt), (f 13 (lit< tt), tt))))))))))))))
+all-pairs P f = from-all P pairs (
+  f 0 (lit< tt),
+  (
+    f 1 (lit< tt),
+    (
+      f 2 (lit< tt),
+      (
+        f 3 (lit< tt),
+        (
+          f 4 (lit< tt),
+          (
+            f 5 (lit< tt),
+            (
+              f 6 (lit< tt),
+              (
+                f 7 (lit< tt),
+                (
+                  f 8 (lit< tt),
+                  (
+                    f 9 (lit< tt),
+                    (f 10 (lit< tt), (f 11 (lit< tt), (f 12 (lit< tt), (f 13 (lit< tt), tt)))),
+                  ),
+                ),
+              ),
+            ),
+          ),
+        ),
+      ),
+    ),
+  ),
+)
 
 -- the amounts of a row
 pub cond-none : (b : Bool) → _≡_ {A = ℕ} (cond b 0 0) 0
@@ -46,19 +93,18 @@ pub amounts-none : (ts : List (ℕ × ℕ)) (vs : List ℕ) → ((s : ℕ) → g
 amounts-none [] vs z j q = refl
 amounts-none (t ∷ ts) [] z j q = refl
 amounts-none (t ∷ ts) (v ∷ vs) z j q =
-  let e : hit (t .0) (hit (t .1) v q) j ≡ 0 = subst (λ (x : ℕ). hit (t .0) (hit (t .1) x q) j ≡ 0) (sym (z 0)) (hit-none (t .0) (t .1) j q) in
-  omega (arith, e, amounts-none ts vs (λ s. z (suc s)) j q)
+    let e : hit (t .0) (hit (t .1) v q) j ≡ 0 = subst (λ (x : ℕ). hit (t .0) (hit (t .1) x q) j ≡ 0) (sym (z 0)) (hit-none (t .0) (t .1) j q) in
+    omega (arith, e, amounts-none ts vs (λ s. z (suc s)) j q)
 
 amounts-set : (ts : List (ℕ × ℕ)) (vs : List ℕ) (i d : ℕ) → i < length vs → i < length ts → getD vs i 0 ≡ 0
-  → (j q : ℕ) → amountsBy ts (set vs i d) j q ≡ amountsBy ts vs j q + hit (getD ts i (0, 0) .0) (hit (getD ts i (0, 0) .1) d q) j
+    → (j q : ℕ) → amountsBy ts (set vs i d) j q ≡ amountsBy ts vs j q + hit (getD ts i (0, 0) .0) (hit (getD ts i (0, 0) .1) d q) j
 amounts-set [] vs i d lv lt z j q = let no : ⊥ = omega arith in absurd no
 amounts-set (t ∷ ts) [] i d lv lt z j q = let no : ⊥ = omega arith in absurd no
 amounts-set (t ∷ ts) (v ∷ vs) zero d lv lt z j q =
-  let e : hit (t .0) (hit (t .1) v q) j ≡ 0 = subst (λ (x : ℕ). hit (t .0) (hit (t .1) x q) j ≡ 0) (sym z) (hit-none (t .0) (t .1) j q) in
-  omega (arith, e)
+    let e : hit (t .0) (hit (t .1) v q) j ≡ 0 = subst (λ (x : ℕ). hit (t .0) (hit (t .1) x q) j ≡ 0) (sym z) (hit-none (t .0) (t .1) j q) in
+    omega (arith, e)
 amounts-set (t ∷ ts) (v ∷ vs) (suc i) d lv lt z j q = omega (arith, amounts-set ts vs i d (omega arith) (omega arith) z j q)
 
 pub amounts-more : (row : List ℕ) (t d : ℕ) → t < 14 → length row ≡ 14 → getD row t 0 ≡ 0 → amountsOf (set row t d) ≡ more 9 Pair (amountsOf row) (capAt t) (posAt t) d
 unfolding amountsOf capAt posAt
 amounts-more row t d lt len z = fun-ext (λ j. fun-ext (λ q. amounts-set pairs row t d (omega (arith, len)) lt z j q))
-

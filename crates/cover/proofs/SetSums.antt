@@ -100,7 +100,7 @@ unfolding rule
 start-grows j k lj lk from to =
     grows-is k (k - width j, j)
     (or-last (ltb k (startAt j)) (leb (startAt (j + 1)) k) (grows k (k - width j, j)) (le-ltb k (startAt j) from) (lt-leb (startAt (j + 1)) k to)
-      (below-at 144 (rule j) (below-at 9 (λ j. all-below 144 (rule j)) rule-holds j lj) k lk))
+    (below-at 144 (rule j) (below-at 9 (λ j. all-below 144 (rule j)) rule-holds j lj) k lk))
 
 -- what the starts keep
 order : ℕ → Bool
@@ -145,6 +145,7 @@ sum-grown (suc n) A B a f h new = omega (arith, sum-grown n A B a f (λ j lt. h 
     neither : (b : Bool) → b || false ≡ b
     neither true = refl
     neither false = refl
+
     one : cond (A n) (f n) 0 ≡ cond (B n) (f n) 0 + hit a (f a) n
     one =
         ⊎-elim
@@ -213,6 +214,7 @@ at-set xs j d lj = fun-ext (λ k. ⊎-elim (here k) (other k) (cases-eq k j))
     here : (k : ℕ) → k ≡ j → getD (set xs j (getD xs j 0 - d)) k 0 ≡ low (at xs) j d k
     here k e = subst (λ (x : ℕ). getD (set xs j (getD xs j 0 - d)) x 0 ≡ low (at xs) j d x) (sym e)
         (getD-set-same xs j (getD xs j 0 - d) 0 lj ∙ ap (λ (x : ℕ). getD xs j 0 - x) (sym (hit-at j j d refl)))
+
     other : (k : ℕ) → k ≢ j → getD (set xs j (getD xs j 0 - d)) k 0 ≡ low (at xs) j d k
     other k ne = omega (arith, getD-set-other xs j k (getD xs j 0 - d) 0 ne, hit-off k j d ne)
 

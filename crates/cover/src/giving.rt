@@ -9,7 +9,14 @@ use super::pairs::pair_at;
 use super::sums::Summed;
 
 // As much as capability `j` may give to position `q`, taken from both; a pair with nothing to give is passed at once.
-fn give_most(rest: &[u64], room: u64, capability: &mut Summed, left: &mut Summed, j: usize, q: usize) -> u64
+fn give_most(
+    rest: &[u64],
+    room: u64,
+    capability: &mut Summed,
+    left: &mut Summed,
+    j: usize,
+    q: usize,
+) -> u64
     requires sets { ⌜ length (now rest) ≡ 144 ⌝ }
     requires few { ⌜ Under 100000000000 (now rest) ⌝ }
     requires room { ⌜ room ≤ 20000000 ⌝ }

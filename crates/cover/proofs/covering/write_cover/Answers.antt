@@ -36,10 +36,10 @@ loop-row-again c =
     let d = c .row-item .result in
     elim (c .match-line .came) [
       | in-Some w ↦ filing-same _ _ _ _ _ _ _ _ _ _ _ _ (w .n-is) (w .rest-is) (ap (λ s. s .figures) (w .left-is)) (w .out-is)
-            (filing-next i n _ _ _ _ _ _ (c .loop-row .inv) d (c .loop-row-test .taken) (c .row-item .is) (w .in-Some .ensures tt .0) _ (w .in-Some .ensures tt .1)
-              _ _ _ (omega (arith, c .loop-row .inv .covers .long)) (w .serve-line .ensures .taken) (w .serve-line .ensures .served))
+          (filing-next i n _ _ _ _ _ _ (c .loop-row .inv) d (c .loop-row-test .taken) (c .row-item .is) (w .in-Some .ensures tt .0) _ (w .in-Some .ensures tt .1)
+          _ _ _ (omega (arith, c .loop-row .inv .covers .long)) (w .serve-line .ensures .taken) (w .serve-line .ensures .served))
       | in-rest w ↦ filing-same _ _ _ _ _ _ _ _ _ _ _ _ (w .n-is) (w .rest-is) (ap (λ s. s .figures) (w .left-is)) (w .out-is)
-            (filing-skip i n _ _ _ _ _ _ (c .loop-row .inv) d (c .loop-row-test .taken) (c .row-item .is) (w .in-rest .ensures tt))
+          (filing-skip i n _ _ _ _ _ _ (c .loop-row .inv) d (c .loop-row-test .taken) (c .row-item .is) (w .in-rest .ensures tt))
     ]
 
 pub returns : need.returns

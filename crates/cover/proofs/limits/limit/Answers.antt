@@ -9,9 +9,10 @@ loop-k-holds c = limit-none _ _ _ _ _ _ _
 
 pub loop-k-again : need.loop-k-again
 loop-k-again c = elim (c .if-not-member .came) [
-  then-not-member·then-spare-d w ↦ limit-take _ _ _ _ _ _ _ _ _ _ _ (c .loop-k .inv) (sym (c .member .ensures) ∙ w .if-not-member .taken) (w .spare-of-spare .ensures) (w .if-spare-d .taken) (w .d-is)
+  | then-not-member·then-spare-d w ↦ limit-take _ _ _ _ _ _ _ _ _ _ _ (c .loop-k .inv) (sym (c .member .ensures) ∙ w .if-not-member .taken) (w .spare-of-spare .ensures) (w .if-spare-d .taken) (w .d-is)
   | then-not-member·else-spare-d w ↦ limit-keep _ _ _ _ _ _ _ _ _ _ _ (c .loop-k .inv) (w .spare-of-spare .ensures) (w .if-spare-d .left) (w .d-is)
-  | else-not-member w ↦ limit-skip _ _ _ _ _ _ _ _ _ _ (c .loop-k .inv) (sym (c .member .ensures) ∙ w .if-not-member .left) (w .d-is) ]
+  | else-not-member w ↦ limit-skip _ _ _ _ _ _ _ _ _ _ (c .loop-k .inv) (sym (c .member .ensures) ∙ w .if-not-member .left) (w .d-is)
+]
 
 pub returns : need.returns
 returns c = limit-end _ _ _ _ _ _ _ (c .loop-k .k) _ (omega arith) (omega arith) (c .loop-k .inv)

@@ -31,7 +31,7 @@ returns-in-Some c =
     let is = c .in-Some .ensures tt .1 in
     let small = c .in-Some .line .small in
     let added : (k : ℕ) → k < 144 → getD (c .add-reach .last .reached) k 0 ≡ getD (c .args .self .reached) k 0 + min (c .in-Some .line .room) (sumTo 9 k (c .in-Some .line .capability)) =
-        λ k h. c .add-reach .ensures k h ∙ ap (λ xs. getD (c .args .self .reached) k 0 + min (c .in-Some .line .room) (sumTo 9 k xs)) (c .capability-of .ensures) in
+    λ k h. c .add-reach .ensures k h ∙ ap (λ xs. getD (c .args .self .reached) k 0 + min (c .in-Some .line .room) (sumTo 9 k xs)) (c .capability-of .ensures) in
     record {
       value = record {
         reached = λ k h. added k h ∙ ap (λ n. getD (c .args .self .reached) k 0 + n) (reach-is _ _ is k ∙ sym (own-part (reachOf k) a r own));
