@@ -1,5 +1,7 @@
 // The account of a QSE on a side, which reads rows and copies none.
 pub mod account;
+pub mod capabilities;
+pub mod counted;
 pub mod figures;
 pub mod line;
 pub mod lines;

@@ -52,7 +52,7 @@ pub fn binding_set(a: &Account) -> Binding
 {
     let standing = a.standing();
     let given = Given::of(a);
-    let (worst, lack) = worst_set(&given.reached, &asked_of(&standing.positions));
+    let (worst, lack) = worst_set(&given.reached, &asked_of(&standing));
     let services = members(worst);
     Binding { lack, services }
 }

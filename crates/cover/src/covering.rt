@@ -71,7 +71,7 @@ fn write_cover(a: &Account, out: &mut [[u32; 14]]) -> u64
     ensures { λ r. ⌜ CoveredBy (accountView (now (a .entry))) (now (out .entry)) (now (out .exit)) r ⌝ }
 {
     let standing = a.standing();
-    let mut left = asked_of(&standing.positions);
+    let mut left = asked_of(&standing);
     let mut rest = Given::of(a).reached;
     let least = lack_of(&rest, &left);
     add_budget(&mut rest, least);

@@ -2,7 +2,6 @@
 ghost use mathlib.Core.Path.{_≡_};
 ghost use Prim.Native.Nat.{ℕ, _+_, _<_, _≤_, min};
 ghost use lib.ListN.{length, getD};
-ghost use Rattle.rows.specs.Limits.{Powers};
 ghost use Rattle.account.specs.Account.{accountView};
 ghost use Rattle.cover.specs.Sets.{Under, sumTo};
 ghost use Rattle.cover.specs.Given.{Within, AddsRow, IsGiven};
@@ -21,22 +20,10 @@ pub struct Given {
     pub offline: u64,
 }
 
-fn widened(capability: &[u32; 9]) -> [u64; 9]
-    requires { ⌜ Powers (now capability) ⌝ }
-    ensures same { λ r. ⌜ r ≡ now (capability .entry) ⌝ }
-    ensures small { λ r. ⌜ Under 5130000000 r ⌝ }
-{
-    let mut found = [0; 9];
-    for k in 0..9 {
-        found[k] = u64::from(capability[k]);
-    }
-    found
-}
-
 pub(crate) fn capability_of(line: &Line) -> Summed
     ensures { λ r. ⌜ r .figures ≡ now (line .entry) .capability ⌝ }
 {
-    Summed::of(widened(&line.capability))
+    Summed::of(line.capabilities())
 }
 
 fn add_reach(reached: &mut [u64], room: u32, capability: &Summed)

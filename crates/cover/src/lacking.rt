@@ -1,31 +1,18 @@
-// The positions as they count, and the greatest lack of a closed set of them.
+// Positions, and the greatest lack of a closed set of them.
 ghost use mathlib.Core.Path.{_≡_};
 ghost use Prim.Native.Nat.{ℕ, _<_, _≤_};
 ghost use lib.IntN.{pos};
 ghost use lib.ListN.{length, getD};
-ghost use lib.Signed.{_≤ℤ_};
 ghost use Rattle.account.specs.View.{counted as countedOf};
-ghost use Rattle.cover.specs.Sets.{Under, lackTo};
+ghost use Rattle.cover.specs.Sets.{lackTo};
 use super::sums::Summed;
-use measure::overall::not_below_zero;
+use account::standing::Standing;
 
-fn counted(positions: &[i64; 9]) -> [u64; 9]
-    requires { ⌜ ((k : ℕ) → getD (now positions) k (pos 0) ≤ℤ pos 5130000000) ⌝ }
-    ensures each { λ r. ⌜ ((k : ℕ) → k < 9 → getD r k 0 ≡ countedOf (getD (now (positions .entry)) k (pos 0))) ⌝ }
-    ensures small { λ r. ⌜ Under 5130000000 r ⌝ }
+// The positions as they count.
+pub(crate) fn asked_of(standing: &Standing) -> Summed
+    ensures { λ r. ⌜ ((k : ℕ) → k < 9 → getD (r .figures) k 0 ≡ countedOf (getD (now (standing .entry) .positions) k (pos 0))) ⌝ }
 {
-    let mut found = [0; 9];
-    for k in 0..9 {
-        found[k] = not_below_zero(positions[k]);
-    }
-    found
-}
-
-pub(crate) fn asked_of(positions: &[i64; 9]) -> Summed
-    requires { ⌜ ((k : ℕ) → getD (now positions) k (pos 0) ≤ℤ pos 5130000000) ⌝ }
-    ensures { λ r. ⌜ ((k : ℕ) → k < 9 → getD (r .figures) k 0 ≡ countedOf (getD (now (positions .entry)) k (pos 0))) ⌝ }
-{
-    Summed::of(counted(positions))
+    Summed::of(standing.counted())
 }
 
 pub(crate) fn lack_of(reached: &[u64], asked: &Summed) -> u64

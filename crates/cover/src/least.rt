@@ -16,5 +16,5 @@ pub fn least_uncovered(a: &Account) -> u64
 {
     let standing = a.standing();
     let given = Given::of(a);
-    lack_of(&given.reached, &asked_of(&standing.positions))
+    lack_of(&given.reached, &asked_of(&standing))
 }

@@ -1,3 +1,4 @@
 pub mod Lawful
 pub mod GroupedLawful
 pub mod LineTotals
+pub mod OverallParts

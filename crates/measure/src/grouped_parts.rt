@@ -1,11 +1,11 @@
 // The value of the grouped edition, and the figures it is made from.
 ghost use Rattle.account.specs.Account.{accountView};
 ghost use Rattle.measure.specs.Grouped.{BrokenDown};
+use super::backing::Backing;
 use super::breakdown::Breakdown;
 use super::levels::Levels;
-use super::overall::counted;
 use super::overall::overall_part;
-use super::overall::slow_sum;
+use super::storage_net::StorageNet;
 use super::totals::Totals;
 use account::account::Account;
 
@@ -13,14 +13,15 @@ pub fn break_down(a: &Account) -> Breakdown
     ensures { λ r. ⌜ BrokenDown (accountView (now (a .entry))) r ⌝ }
 {
     let standing = a.standing();
-    let positions = counted(&standing.positions);
-    let asked = Levels::of(&positions);
+    let asked = Levels::of(&standing.counted());
     let totals = Totals::of(a);
     let levels = asked.less(totals.served);
     let reserve = levels.worst_upward() + levels.reg_down;
-    let slow = slow_sum(&positions).saturating_sub(totals.offline);
-    let wanted = 4 * standing.load + (asked.fast + slow);
-    let overall = overall_part(wanted, totals.supply, standing.net, 0);
+    let backing = Backing {
+        supply: totals.supply,
+        offline: totals.offline,
+    };
+    let overall = overall_part(&standing, backing, StorageNet::Ignored);
     Breakdown {
         load: standing.load,
         net: standing.net,

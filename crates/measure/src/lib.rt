@@ -1,4 +1,5 @@
 // Measures of an account: how many kW a QSE is short on a side.
+pub mod backing;
 pub mod breakdown;
 pub mod greater;
 pub mod grouped;
@@ -7,5 +8,6 @@ pub mod levels;
 pub mod levels_of;
 pub mod measure;
 pub mod overall;
+pub mod storage_net;
 pub mod totals;
 pub mod totals_of;

@@ -1,9 +1,6 @@
 // The totals of an account, line by line.
-ghost use Prim.Native.Nat.{ℕ, _+_, _*_, _≤_, _<_, min};
-ghost use mathlib.Core.List.{List};
-ghost use mathlib.Core.Path.{_≡_};
+ghost use Prim.Native.Nat.{ℕ, _+_, min};
 ghost use lib.ListN.{getD};
-ghost use Rattle.rows.specs.Limits.{Powers};
 ghost use Rattle.account.specs.View.{over};
 ghost use Rattle.account.specs.Account.{accountView};
 ghost use Rattle.measure.specs.Levels.{IsLevels, AtMost};
@@ -14,25 +11,12 @@ use account::account::Account;
 use account::line::Line;
 use rows::resource::ResourceRow;
 
-fn widened(capability: &[u32; 9]) -> [u64; 9]
-    requires { ⌜ Powers (now capability) ⌝ }
-    ensures each { λ r. ⌜ ((k : ℕ) → k < 9 → getD r k 0 ≡ getD (now (capability .entry)) k 0) ⌝ }
-    ensures small { λ r. ⌜ Powers r ⌝ }
-{
-    let mut found = [0; 9];
-    for k in 0..9 {
-        found[k] = u64::from(capability[k]);
-    }
-    found
-}
-
 // What a line serves of each level.
 fn served_by(line: &Line) -> Levels
     ensures value { λ r. ⌜ IsLevels r (λ ks. min (now (line .entry) .room) (over ks (λ k. getD (now (line .entry) .capability) k 0))) ⌝ }
     ensures small { λ r. ⌜ AtMost r 20000000 ⌝ }
 {
-    let capability = widened(&line.capability);
-    Levels::of(&capability).within(u64::from(line.room))
+    Levels::of(&line.capabilities()).within(u64::from(line.room))
 }
 
 impl Totals {
