@@ -6,9 +6,13 @@ use cover::covering::cover;
 use cover::pairs::PAIRS;
 use cover::sub_type::SubType;
 use cover::sub_type::SubTypeMeasure;
+use measure::backing::Backing;
 use measure::breakdown::Breakdown;
 use measure::grouped_parts::break_down;
 use measure::measure::Measure;
+use measure::overall::overall_part;
+use measure::storage_net::StorageNet;
+use measure::totals::Totals;
 use std::io;
 
 pub fn report_side(
@@ -22,11 +26,15 @@ pub fn report_side(
     let net = parts.net;
     println!(rt, "  {side} load {load} net {net}")?;
     report_grouped(rt, &parts)?;
+    let overall = sub_type_overall(a);
     let value = SubType {}.value(a);
     match cover(a, table) {
-        Err(_) => println!(rt, "    subtype value {value}"),
+        Err(_) => println!(rt, "    subtype overall {overall} value {value}"),
         Ok(reserve) => {
-            println!(rt, "    subtype reserve {reserve} value {value}")?;
+            println!(
+                rt,
+                "    subtype overall {overall} reserve {reserve} value {value}"
+            )?;
             report_cover(rt, a, table)?;
             if reserve > 0 {
                 report_binding(rt, a)
@@ -35,6 +43,16 @@ pub fn report_side(
             }
         }
     }
+}
+
+// The overall part with the storage net.
+fn sub_type_overall(a: &Account) -> u64 {
+    let totals = Totals::of(a);
+    let backing = Backing {
+        supply: totals.supply,
+        offline: totals.offline,
+    };
+    overall_part(&a.standing(), backing, StorageNet::Counted)
 }
 
 fn report_grouped(rt: &LibcRuntime, parts: &Breakdown) -> io::Result<()> {
