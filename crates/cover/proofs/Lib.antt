@@ -1,4 +1,5 @@
 pub mod SetSums
+pub mod SetMasks
 pub mod WorstSet
 pub mod LimitSteps
 pub mod PairTable

@@ -18,21 +18,8 @@ use Rattle.least.proofs.Base.{bcase, cond-no, cond-yes, hit-at, hit-off, sumIn-
 use Rattle.cover.specs.Sets.{Grows, startAt, Under, sumTo, lackTo}
 use Rattle.cover.specs.Amounts.{at}
 
-pub mem-off : (k j : ℕ) → 9 ≤ j → false ≡ mem k j
-unfolding mem
-mem-off k zero h = absurd (omega arith)
-mem-off k (suc zero) h = absurd (omega arith)
-mem-off k (suc (suc zero)) h = absurd (omega arith)
-mem-off k (suc (suc (suc zero))) h = absurd (omega arith)
-mem-off k (suc (suc (suc (suc zero)))) h = absurd (omega arith)
-mem-off k (suc (suc (suc (suc (suc zero))))) h = absurd (omega arith)
-mem-off k (suc (suc (suc (suc (suc (suc zero)))))) h = absurd (omega arith)
-mem-off k (suc (suc (suc (suc (suc (suc (suc zero))))))) h = absurd (omega arith)
-mem-off k (suc (suc (suc (suc (suc (suc (suc (suc zero)))))))) h = absurd (omega arith)
-mem-off k (suc (suc (suc (suc (suc (suc (suc (suc (suc j))))))))) h = refl
-
 -- the rule of the starts, as one test of all sets
-same : Bool → Bool → Bool
+unfoldable pub same : Bool → Bool → Bool
 same true b = b
 same false b = not b
 
@@ -43,11 +30,11 @@ same-is true false e = sym e
 same-is false true e = e
 same-is false false e = refl
 
-alike : ℕ → (ℕ → Bool) → (ℕ → Bool) → Bool
+unfoldable pub alike : ℕ → (ℕ → Bool) → (ℕ → Bool) → Bool
 alike zero f g = true
 alike (suc n) f g = same (f n) (g n) && alike n f g
 
-alike-at : (n : ℕ) (f g : ℕ → Bool) → alike n f g ≡ true → (j : ℕ) → j < n → f j ≡ g j
+pub alike-at : (n : ℕ) (f g : ℕ → Bool) → alike n f g ≡ true → (j : ℕ) → j < n → f j ≡ g j
 unfolding alike
 alike-at zero f g e j lt = absurd (omega arith)
 alike-at (suc n) f g e j lt =
@@ -75,11 +62,11 @@ width j = startAt (j + 1) - startAt j
 rule : ℕ → ℕ → Bool
 rule j k = ltb k (startAt j) || (leb (startAt (j + 1)) k || grows k (k - width j, j))
 
-all-below : ℕ → (ℕ → Bool) → Bool
+unfoldable pub all-below : ℕ → (ℕ → Bool) → Bool
 all-below zero f = true
 all-below (suc n) f = f n && all-below n f
 
-below-at : (n : ℕ) (f : ℕ → Bool) → all-below n f ≡ true → (j : ℕ) → j < n → f j ≡ true
+pub below-at : (n : ℕ) (f : ℕ → Bool) → all-below n f ≡ true → (j : ℕ) → j < n → f j ≡ true
 unfolding all-below
 below-at zero f e j lt = absurd (omega arith)
 below-at (suc n) f e j lt =

@@ -1,5 +1,5 @@
 -- The closed sets by number, what sums over them say, and the limit of a giving.
-use Prim.Native.Nat.{ℕ, zero, suc, _+_, _-_, _≤_, _<_, min}
+use Prim.Native.Nat.{ℕ, zero, suc, _+_, _-_, _^_, _≤_, _<_, min}
 use mathlib.Core.Path.{_≡_}
 use mathlib.Core.Bool.{Bool, true, false, cond, _||_}
 use mathlib.Core.List.{List, [], _∷_}
@@ -20,6 +20,10 @@ pub record Grows (k p a : ℕ) : Type 0 where
 -- the first set with the member j and none after it
 unfoldable pub startAt : ℕ → ℕ
 startAt j = getD (1 ∷ 2 ∷ 4 ∷ 8 ∷ 12 ∷ 16 ∷ 32 ∷ 48 ∷ 96 ∷ 144 ∷ []) j 0
+
+-- the members of the set number k as bits
+unfoldable pub maskAt : ℕ → ℕ
+maskAt k = sumIn 9 (mem k) (λ j. 2 ^ j)
 
 -- no number above u
 abbrev pub Under : ℕ → List ℕ → Type 0

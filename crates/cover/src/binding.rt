@@ -37,6 +37,7 @@ fn worst_set(reached: &[u64], asked: &Summed) -> (usize, u64)
 }
 
 fn members(k: usize) -> [bool; 9]
+    requires { ⌜ k < 144 ⌝ }
     ensures { λ r. ⌜ ((j : ℕ) → j < 9 → getD r j false ≡ mem k j) ⌝ }
 {
     let mut found = [false; 9];

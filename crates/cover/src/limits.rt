@@ -11,6 +11,7 @@ fn spare_of(rest: &[u64], room: u64, capability: &Summed, left: &Summed, j: usiz
     requires sets { ⌜ length (now rest) ≡ 144 ⌝ }
     requires few { ⌜ Under 100000000000 (now rest) ⌝ }
     requires room { ⌜ room ≤ 20000000 ⌝ }
+    requires capability { ⌜ j < 9 ⌝ }
     requires number { ⌜ k < 144 ⌝ }
     ensures { λ r. ⌜ r ≡ spareAt (now (rest .entry)) room (now (capability .entry) .figures) (now (left .entry) .figures) j k ⌝ }
 {
@@ -35,6 +36,8 @@ pub(crate) fn limit(
     requires sets { ⌜ length (now rest) ≡ 144 ⌝ }
     requires few { ⌜ Under 100000000000 (now rest) ⌝ }
     requires room { ⌜ room ≤ 20000000 ⌝ }
+    requires capability { ⌜ j < 9 ⌝ }
+    requires position { ⌜ q < 9 ⌝ }
     ensures { λ r. ⌜ LimitTo 144 (now (rest .entry)) room (now (capability .entry) .figures) (now (left .entry) .figures) j q b r ⌝ }
 {
     let mut d = b;
