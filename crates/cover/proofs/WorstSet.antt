@@ -5,18 +5,12 @@ use mathlib.Core.List.{List}
 use native.Mathlib.Omega.{arith}
 use lib.Dec.{lit<}
 use lib.ListN.{getD}
-use Rattle.least.proofs.Parents.{first-sum}
 use Rattle.cover.specs.Sets.{sumTo, lackTo}
 use Rattle.cover.specs.Binding.{Worst}
-use Rattle.cover.proofs.SetSums.{lack-none, lack-more}
-
--- the empty set asks for nothing
-empty-sum : (p : List ℕ) → sumTo 9 0 p ≡ 0
-unfolding sumTo
-empty-sum p = first-sum (λ j. getD p j 0)
+use Rattle.cover.proofs.SetSums.{lack-none, lack-more, sum-empty}
 
 pub worst-none : (reached p : List ℕ) → Worst 0 reached p 0 0
-worst-none reached p = record { most = lack-none reached p; number = lit< tt; lack = omega (arith, empty-sum p) }
+worst-none reached p = record { most = lack-none reached p; number = lit< tt; lack = omega (arith, sum-empty p) }
 
 module _ (n : ℕ) (reached p : List ℕ) (w m s r : ℕ) (before : Worst n reached p w m) (number : n < 144) (sum : s ≡ sumTo 9 n p) (lack : r ≡ s - getD reached n 0) where
   greater : (k : ℕ) → k ≡ max m r → k ≡ lackTo (n + 1) reached p

@@ -8,4 +8,3 @@ pub mod Chains
 pub mod Finish
 pub mod Family
 pub mod SubTypeLawful
-pub mod Parents

@@ -3,4 +3,3 @@ pub mod Cover
 pub mod Laws
 pub mod Chains
 pub mod SubType
-pub mod Parents
