@@ -42,8 +42,8 @@ module _ (n : ℕ) (E : ℕ → ℕ → Bool) where
   lack-lower ls ms p q h le = greatest-mono (2 ^ n) (λ k. lack n E ms q (bit k)) (λ k. lack n E ls p (bit k))
       (λ k. omega (arith, h (able n E (bit k)), sumIn-le n (bit k) q p (λ i lt t. le i)))
 
-  any-order : (ls ms : List Source) (p : ℕ → ℕ) → Shuffled ls ms → greatestLack n E ms p ≡ greatestLack n E ls p
-  any-order ls ms p s =
+  shuffle-free : (ls ms : List Source) (p : ℕ → ℕ) → Shuffled ls ms → greatestLack n E ms p ≡ greatestLack n E ls p
+  shuffle-free ls ms p s =
       let e : (A : Set) → reachAll n ms A ≡ reachAll n ls A = λ A. omega (arith, reachAll-sumBy n ls A, reachAll-sumBy n ms A, sumBy-shuffled (λ l. reach n l A) ls ms s) in
       omega (arith, lack-lower ls ms p p (λ A. omega (arith, e A)) (λ k. omega arith), lack-lower ms ls p p (λ A. omega (arith, e A)) (λ k. omega arith))
 
@@ -57,7 +57,7 @@ module _ (n : ℕ) (E : ℕ → ℕ → Bool) where
 -- the four laws of the nine sub-types
 pub laws : Laws
 laws = record {
-  order = any-order 9 Pair;
+  order = shuffle-free 9 Pair;
   pool = pool 9 Pair;
   help = λ ls ms p q b le. lack-lower 9 Pair ls ms p q (λ A. reachAll-better 9 ls ms A b) le;
   nothing = nothing 9 Pair;
