@@ -1,4 +1,6 @@
 // The account of a QSE on a side, which reads rows and copies none.
+#![tactic(auto)]
+
 pub mod account;
 pub mod capabilities;
 pub mod counted;

@@ -1,4 +1,6 @@
 // The shortfall book: every call, with its refusals.
+#![tactic(auto)]
+
 pub mod books;
 pub mod covers;
 pub mod enrols;

@@ -1,3 +1,5 @@
 // Worked cases, each of which is run.
+#![tactic(auto)]
+
 #[cfg(test)]
 mod covers;

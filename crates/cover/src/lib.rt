@@ -1,4 +1,6 @@
 // Covers of positions by the lines of an account, and the edition of the rules that counts by sub-type.
+#![tactic(auto)]
+
 pub mod binding;
 pub mod covering;
 pub mod given;

@@ -1,4 +1,6 @@
 // The division of a pot of cents over rows by their weight.
+#![tactic(auto)]
+
 pub mod division;
 pub mod load_weight;
 pub mod qse_weight;

@@ -1,4 +1,6 @@
 // The editions of the rules, chosen when a program runs.
+#![tactic(auto)]
+
 pub mod edition;
 pub mod names;
 pub mod places;

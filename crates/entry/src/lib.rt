@@ -1,4 +1,6 @@
 // Lists of signed numbers, checked and read as rows.
+#![tactic(auto)]
+
 pub mod checks;
 mod codes;
 pub mod figures;

@@ -1,4 +1,6 @@
 // journal: a journal of calls on a book, answered line by line.
+#![tactic(auto)]
+
 mod answers;
 mod blanks;
 mod closing;

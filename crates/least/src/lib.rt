@@ -1,4 +1,6 @@
 // Covers of positions by what lines can give. The reserve part of the sub-type edition is the least that a cover leaves uncovered.
+#![tactic(auto)]
+
 ghost use Rattle.account.specs.View.{View};
 ghost use Rattle.least.specs.Cover.{Duality};
 ghost use Rattle.least.specs.SubType.{LeastUncovered, reserve};

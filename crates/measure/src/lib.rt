@@ -1,4 +1,6 @@
 // Measures of an account: how many kW a QSE is short on a side.
+#![tactic(auto)]
+
 pub mod backing;
 pub mod breakdown;
 pub mod greater;

@@ -1,4 +1,6 @@
 // The rows of a shortfall book, their limits, and why a call is refused.
+#![tactic(auto)]
+
 pub mod codes;
 pub mod fault;
 pub mod fault_code;

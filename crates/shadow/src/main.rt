@@ -1,4 +1,6 @@
 // shadow: what one interval will cost each QSE, before the operator's statement arrives.
+#![tactic(auto)]
+
 mod charge;
 mod desk;
 mod input;

@@ -1,4 +1,6 @@
 // strikes: how long a strike of a full book takes.
+#![tactic(auto)]
+
 mod draws;
 mod entered;
 mod full;

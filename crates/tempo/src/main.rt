@@ -1,4 +1,6 @@
 // tempo: how long the measures and the cover of an account take.
+#![tactic(auto)]
+
 mod draws;
 mod dump;
 mod fleet;
