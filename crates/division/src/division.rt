@@ -8,7 +8,7 @@ use rows::fault::Fault;
 // Puts the pot on the rows, and says how many cents were put: none where no row has a weight. A row
 // that could pass its limit is found before any is written.
 pub fn divide<T: Weighed>(rows: &mut [T], pot: u32) -> Result<u32, Fault>
-    ensures { Divides weighs holds paid pot rows.old rows.new result }
+    ensures { Divides T.weighs T.holds T.paid pot rows.old rows.new result }
 {
     if !all_have_room(rows, pot) {
         return Err(Fault::BrokenTable);
@@ -23,7 +23,7 @@ pub fn divide<T: Weighed>(rows: &mut [T], pot: u32) -> Result<u32, Fault>
 
 // No sum wraps: a slice has fewer than 2^64 rows, and each weight is below 2^32.
 pub fn sum_of_weights<T: Weighed>(rows: &[T]) -> u128
-    ensures value { result ≡ sum_by weighs rows.now }
+    ensures value { result ≡ sum_by T.weighs rows.now }
     ensures small { result < 2 ^ 96 }
 {
     let mut sum = 0u128;
@@ -35,7 +35,7 @@ pub fn sum_of_weights<T: Weighed>(rows: &[T]) -> u128
 
 // Whether each row can take the whole pot.
 fn all_have_room<T: Weighed>(rows: &[T], pot: u32) -> bool
-    ensures { elim result [ true ↦ HasRoom holds pot rows.now | false ↦ TooFull holds pot rows.now ] }
+    ensures { elim result [ true ↦ HasRoom T.holds pot rows.now | false ↦ TooFull T.holds pot rows.now ] }
 {
     for row in rows {
         if !has_room(row.cents(), pot) {
@@ -48,11 +48,11 @@ fn all_have_room<T: Weighed>(rows: &[T], pot: u32) -> bool
 // Gives each row what the pot has for the weights up to it, less what it has for those before it, so
 // that what rounding leaves goes to a later row.
 fn spread<T: Weighed>(rows: &mut [T], pot: u32, all: u128)
-    requires sum { all ≡ sum_by weighs rows.old }
+    requires sum { all ≡ sum_by T.weighs rows.old }
     requires some { 0 < all }
     requires small { all < 2 ^ 96 }
-    requires room { HasRoom holds pot rows.old }
-    ensures { Spread weighs holds paid pot rows.old rows.new all }
+    requires room { HasRoom T.holds pot rows.old }
+    ensures { Spread T.weighs T.holds T.paid pot rows.old rows.new all }
 {
     let mut before = 0u128;
     for row in rows.iter_mut() {

@@ -7,5 +7,5 @@ all_zero zero k = refl
 all_zero (suc n) zero = refl
 all_zero (suc n) (suc k) = all_zero n k
 
-pub invariant-of-side : goal.invariant-of-side
-invariant-of-side c = ((omega arith, λ k. omega (arith, all_zero 9 k)), (omega (arith, ints), omega (arith, ints)))
+pub invariant_of-side : goal.invariant_of-side
+invariant_of-side c = ((omega arith, λ k. omega (arith, all_zero 9 k)), (omega (arith, ints), omega (arith, ints)))

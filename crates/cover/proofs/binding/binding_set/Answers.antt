@@ -9,14 +9,14 @@ use Rattle.cover.proofs.binding.binding_set.Goals as goal
 pub returns : goal.returns
 returns c =
     let v = account_view c.args.a.now in
-    let agree : (k : ℕ) → k < 9 → get_or c.asked-of.result.figures k 0 ≡ demand v k = λ k h. c.asked-of.ensures k h ∙ ap counted (c.standing-standing.ensures.positions k h) in
+    let agree : (k : ℕ) → k < 9 → get_or c.asked_of.result.figures k 0 ≡ demand v k = λ k h. c.asked_of.ensures k h ∙ ap counted (c.standing-standing.ensures.positions k h) in
     let table = c.of-given.ensures.value.reached in
-    let worst = c.worst-set-worst.ensures in
-    let set = c.worst-set-worst.result.0 in
+    let worst = c.worst_set-worst.ensures in
+    let set = c.worst_set-worst.result.0 in
     record {
       set = set;
       closed = worst.number;
       services = c.members-services.ensures;
-      lack = omega (arith, worst.lack, sum_agrees set c.asked-of.result.figures (demand v) agree, table set worst.number);
+      lack = omega (arith, worst.lack, sum_agrees set c.asked_of.result.figures (demand v) agree, table set worst.number);
       reserve = reserve_is v _ _ _ table agree worst.most;
     }

@@ -6,18 +6,18 @@ use Rattle.cover.proofs.CoverSteps.{filing_none, filing_same, filing_skip, filin
 use Rattle.cover.proofs.covering.write_cover.Goals as goal
 use Rattle.cover.proofs.covering.write_cover.Goals.{in-Some, in-default}
 
-pub slice-bounds-serve-line-end : goal.slice-bounds-serve-line-end
-slice-bounds-serve-line-end c = sym c.loop-row.invariant.covers.long
+pub slice_bounds-serve_line-end : goal.slice_bounds-serve_line-end
+slice_bounds-serve_line-end c = sym c.loop-row.invariant.covers.long
 
 pub loop-row-init : goal.loop-row-init
 loop-row-init c =
     let a = c.args.a.now in
-    let agree : (k : ℕ) → k < 9 → get_or c.asked-of-left.result.figures k 0 ≡ demand (account_view a) k = λ k h. c.asked-of-left.ensures k h ∙ ap counted (c.standing-standing.ensures.positions k h) in
-    filing_none _ a _ _ _ _ c.of.ensures.value.reached c.of.ensures.small.reached agree c.lack-of-least.ensures.most c.lack-of-least.ensures.small
-    (omega arith) c.add-budget.ensures.none c.add-budget.ensures.more c.requires
+    let agree : (k : ℕ) → k < 9 → get_or c.asked_of-left.result.figures k 0 ≡ demand (account_view a) k = λ k h. c.asked_of-left.ensures k h ∙ ap counted (c.standing-standing.ensures.positions k h) in
+    filing_none _ a _ _ _ _ c.of.ensures.value.reached c.of.ensures.small.reached agree c.lack_of-least.ensures.most c.lack_of-least.ensures.small
+    (omega arith) c.add_budget.ensures.none c.add_budget.ensures.more c.requires
 
-pub serve-line-requires : goal.serve-line-requires
-serve-line-requires c = record {
+pub serve_line-requires : goal.serve_line-requires
+serve_line-requires c = record {
   sets = c.loop-row.invariant.covers.long;
   few = c.loop-row.invariant.covers.small;
   enough = filing_enough c.loop-row.row-index c.loop-row.n _ _ _ _ _ _ c.loop-row.invariant c.row-item.result c.loop-row-test.true c.row-item.is c.in-Some.ensures.0 _ c.in-Some.ensures.1;
@@ -34,13 +34,13 @@ loop-row-preserved c =
     elim c.match-line.branch [
       | in-Some w ↦ filing_same _ _ _ _ _ _ _ _ _ _ _ _ w.n-is w.rest-is (ap (λ s. s.figures) w.left-is) w.out-is
           (filing_next i n _ _ _ _ _ _ c.loop-row.invariant d c.loop-row-test.true c.row-item.is w.in-Some.ensures.0 _ w.in-Some.ensures.1
-          _ _ _ (omega (arith, c.loop-row.invariant.covers.long)) w.serve-line.ensures.taken w.serve-line.ensures.served)
+          _ _ _ (omega (arith, c.loop-row.invariant.covers.long)) w.serve_line.ensures.taken w.serve_line.ensures.served)
       | in-default w ↦ filing_same _ _ _ _ _ _ _ _ _ _ _ _ w.n-is w.rest-is (ap (λ s. s.figures) w.left-is) w.out-is
-          (filing_skip i n _ _ _ _ _ _ c.loop-row.invariant d c.loop-row-test.true c.row-item.is w.in-default.ensures)
+          (filing_skip i n _ _ _ _ _ _ c.loop-row.invariant d c.loop-row-test.true c.row-item.is w.in_default.ensures)
     ]
 
 pub returns : goal.returns
 returns c =
     let a = c.args.a.now in
-    let agree : (k : ℕ) → k < 9 → get_or c.asked-of-left.result.figures k 0 ≡ demand (account_view a) k = λ k h. c.asked-of-left.ensures k h ∙ ap counted (c.standing-standing.ensures.positions k h) in
-    filing_end c.loop-row.row-index c.loop-row.n _ a _ _ _ _ _ _ (omega arith) (omega arith) c.of.ensures.value.reached agree c.lack-of-least.ensures.most c.requires c.loop-row.invariant
+    let agree : (k : ℕ) → k < 9 → get_or c.asked_of-left.result.figures k 0 ≡ demand (account_view a) k = λ k h. c.asked_of-left.ensures k h ∙ ap counted (c.standing-standing.ensures.positions k h) in
+    filing_end c.loop-row.row-index c.loop-row.n _ a _ _ _ _ _ _ (omega arith) (omega arith) c.of.ensures.value.reached agree c.lack_of-least.ensures.most c.requires c.loop-row.invariant

@@ -8,8 +8,8 @@ loop-k-init c = limit_none _ _ _ _ _ _ _
 
 pub loop-k-preserved : goal.loop-k-preserved
 loop-k-preserved c = elim c.if-not-member.branch [
-  | then-not-member+then-spare-d w ↦ limit_take _ _ _ _ _ _ _ _ _ _ _ c.loop-k.invariant (sym c.member.ensures ∙ w.if-not-member.true) w.spare-of-spare.ensures w.if-spare-d.true w.d-is
-  | then-not-member+else-spare-d w ↦ limit_keep _ _ _ _ _ _ _ _ _ _ _ c.loop-k.invariant w.spare-of-spare.ensures w.if-spare-d.false w.d-is
+  | then-not-member+then-spare-d w ↦ limit_take _ _ _ _ _ _ _ _ _ _ _ c.loop-k.invariant (sym c.member.ensures ∙ w.if-not-member.true) w.spare_of-spare.ensures w.if-spare-d.true w.d-is
+  | then-not-member+else-spare-d w ↦ limit_keep _ _ _ _ _ _ _ _ _ _ _ c.loop-k.invariant w.spare_of-spare.ensures w.if-spare-d.false w.d-is
   | else-not-member w ↦ limit_skip _ _ _ _ _ _ _ _ _ _ c.loop-k.invariant (sym c.member.ensures ∙ w.if-not-member.false) w.d-is
 ]
 

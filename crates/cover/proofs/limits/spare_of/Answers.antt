@@ -8,7 +8,7 @@ returns c =
     let caps = c.args.capability.now in
     let left = c.args.left.now in
     let k = c.args.k in
-    c.saturating-sub.ensures ∙ spare_is _ _ _ _ _ _ c.member.result _ _ c.member.ensures
+    c.saturating_sub.ensures ∙ spare_is _ _ _ _ _ _ c.member.result _ _ c.member.ensures
     (elim c.if-member.branch [
       | then-member w ↦ gain_yes _ _ _ _ _ w.if-member.true (caps.each k c.requires.number) (w.gain-is ∙ w.min-gain.ensures)
       | else-member w ↦ gain_no _ _ _ _ w.if-member.false w.gain-is

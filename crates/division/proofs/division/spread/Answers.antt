@@ -16,8 +16,8 @@ after_within g c =
     let after = upto_more old c.loop-row.rows i c.loop-row.invariant.1 weighs c.row-item.result c.loop-row.before c.from.result (omega arith) c.loop-row.invariant.2 (omega arith) in
     omega (arith, after, sum_by-take-le weighs old (i + 1))
 
-pub overflow-add-after : goal.overflow-add-after
-overflow-add-after g c = record { fits = omega (arith, after_within g c) }
+pub overflow_add-after : goal.overflow_add-after
+overflow_add-after g c = record { fits = omega (arith, after_within g c) }
 
 pub share-requires : goal.share-requires
 share-requires g c = record { some = c.requires.some; order = omega arith; within = after_within g c; small = c.requires.small }

@@ -3,8 +3,8 @@ use Rattle.std.proofs.lemmas.List.{take_all}
 use Rattle.std.proofs.lemmas.List.Sums.{sum_by_more}
 use Rattle.division.proofs.division.sum_of_weights.Goals as goal
 
-pub overflow-add-sum : goal.overflow-add-sum
-overflow-add-sum g c = record { fits = omega arith }
+pub overflow_add-sum : goal.overflow_add-sum
+overflow_add-sum g c = record { fits = omega arith }
 
 pub loop-row-preserved : goal.loop-row-preserved
 loop-row-preserved g c =

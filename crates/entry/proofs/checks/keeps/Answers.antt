@@ -13,6 +13,6 @@ returns-then-within c =
     let fl : SFits w64 c.place-low.result.0 = search rules in
     let fh : SFits w64 c.place-low.result.1 = search rules in
     keeps_when_within c.args.form xs c.args.k c.place-low.ensures c.figure-x.ensures
-    (c.figure-previous.ensures ∙ ap (at xs) c.saturating-sub.ensures) c.figure.ensures
+    (c.figure-previous.ensures ∙ ap (at xs) c.saturating_sub.ensures) c.figure.ensures
     ((simp to_z-of_z at c.if-within.ensures).0 refl)
     (simp to_z-of_z at c.keeps.ensures)

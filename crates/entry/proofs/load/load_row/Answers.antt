@@ -11,7 +11,7 @@ use Rattle.entry.proofs.load.load_row.Goals as goal
 pub returns : goal.returns
 returns c =
     let xs = c.args.list.now in
-    let g : AllKept Load xs = c.in-ok-check.ensures in
+    let g : AllKept Load xs = c.in_ok-check.ensures in
     let w = (whole_kept Load xs g).limited in
     record {
       entered = (

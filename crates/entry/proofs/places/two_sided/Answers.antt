@@ -13,11 +13,11 @@ returns-then-after-size c =
     let first = c.args.first.now in
     let n = c.args.size - length first in
     let e = side_size first c.args.size c.requires.long in
-    c.in-side.ensures n (omega arith) ∙ place_in_first_side c.args.head.now (with_powers first n) c.args.k (omega arith) (omega arith)
+    c.in_side.ensures n (omega arith) ∙ place_in_first_side c.args.head.now (with_powers first n) c.args.k (omega arith) (omega arith)
 
 pub returns-else-after-size : goal.returns-else-after-size
 returns-else-after-size c =
     let first = c.args.first.now in
     let n = c.args.size - length first in
     let e = side_size first c.args.size c.requires.long in
-    c.in-side-else-after-size.ensures n (omega arith) ∙ place_in_second_side c.args.head.now (with_powers first n) c.args.k c.args.size e (omega arith) (omega arith)
+    c.in_side-else-after-size.ensures n (omega arith) ∙ place_in_second_side c.args.head.now (with_powers first n) c.args.k c.args.size e (omega arith) (omega arith)

@@ -11,56 +11,51 @@ use Rattle.entry.proofs.Parts.{whole_kept, sides_kept}
 use Rattle.entry.proofs.Ruled.{mark_unset, nothing_before, no_potential, lsl_up}
 use Rattle.entry.proofs.resource.resource_row.Goals as goal
 
-pub overflow-cast-result-2 : goal.overflow-cast-result-2
-overflow-cast-result-2 c =
-    let g : AllKept Resource c.args.list.now = c.in-ok-check.ensures in
+pub overflow_cast-result-2 : goal.overflow_cast-result-2
+overflow_cast-result-2 c =
+    let g : AllKept Resource c.args.list.now = c.in_ok-check.ensures in
     cast_32 (at c.args.list.now 4) (omega arith) (g.each 4 (omega arith)).limited
 
-pub resource-side-requires : goal.resource-side-requires
-resource-side-requires c =
-    (_, (sides_kept Resource (length resource_head) (length resource_side) c.args.list.now c.in-ok-check.ensures (omega arith) c.split-at.ensures.front c.split-at.ensures.back).0)
+pub resource_side-requires : goal.resource_side-requires
+resource_side-requires c =
+    (_, (sides_kept Resource (length resource_head) (length resource_side) c.args.list.now c.in_ok-check.ensures (omega arith) c.split_at.ensures.front c.split_at.ensures.back).0)
 
-pub resource-side-requires-2 : goal.resource-side-requires-2
-resource-side-requires-2 c =
-    (_, (sides_kept Resource (length resource_head) (length resource_side) c.args.list.now c.in-ok-check.ensures (omega arith) c.split-at.ensures.front c.split-at.ensures.back).1)
+pub resource_side-requires-2 : goal.resource_side-requires-2
+resource_side-requires-2 c =
+    (_, (sides_kept Resource (length resource_head) (length resource_side) c.args.list.now c.in_ok-check.ensures (omega arith) c.split_at.ensures.front c.split_at.ensures.back).1)
 
 -- the number, the marks, the kW before, the potentials and the lower limits, in the order of the row's ghost fields
-pub invariant-of-result : goal.invariant-of-result
-invariant-of-result c =
+pub invariant_of-result : goal.invariant_of-result
+invariant_of-result c =
     let xs = c.args.list.now in
-    let g : AllKept Resource xs = c.in-ok-check.ensures in
+    let g : AllKept Resource xs = c.in_ok-check.ensures in
     let w = (whole_kept Resource xs g).limited in
-    let kind = c.kind-of.result in
-    let y : at xs 1 ≡ pos (kind_number kind) = sym (c.kind-of.ensures ∙ read_back (at xs 1) (omega arith) (w 1 (omega arith))) in
-    let s = plain_side c.resource-side.result in
-    let t = plain_side c.resource-side-2.result in
-    let es = c.resource-side.ensures in
-    let et = c.resource-side-2.ensures in
-    let sides = sides_kept Resource (length resource_head) (length resource_side) xs g (omega arith) c.split-at.ensures.front c.split-at.ensures.back in (
-      cast_least (at xs 0) (omega arith) (w 0 (omega arith)),
-      (
-        (λ m. (mark_unset kind (at xs 2) (at xs 1) y (g.each 2 (omega arith)).ruled m, mark_unset kind (at xs 3) (at xs 1) y (g.each 3 (omega arith)).ruled m)),
-        (
-          (cast_most (at xs 4) (omega arith) (w 4 (omega arith)), λ m. nothing_before _ (at xs 4) (at xs 3) (cast_back (at xs 4) (omega arith) (w 4 (omega arith))) (g.each 4 (omega arith)).ruled m),
-          (
-            (λ m. (no_potential kind (at xs 1) y _ s sides.0 es m, no_potential kind (at xs 1) y _ t sides.1 et m)),
-            ((λ m. (lsl_up kind (at xs 1) y _ s sides.0 es m, lsl_up kind (at xs 1) y _ t sides.1 et m)), tt),
-          ),
-        ),
-      ),
-    )
+    let kind = c.kind_of.result in
+    let y : at xs 1 ≡ pos (kind_number kind) = sym (c.kind_of.ensures ∙ read_back (at xs 1) (omega arith) (w 1 (omega arith))) in
+    let s = plain_side c.resource_side.result in
+    let t = plain_side c.resource_side-2.result in
+    let es = c.resource_side.ensures in
+    let et = c.resource_side-2.ensures in
+    let sides = sides_kept Resource (length resource_head) (length resource_side) xs g (omega arith) c.split_at.ensures.front c.split_at.ensures.back in
+    record {
+      named = cast_least (at xs 0) (omega arith) (w 0 (omega arith));
+      marks = λ m. (mark_unset kind (at xs 2) (at xs 1) y (g.each 2 (omega arith)).ruled m, mark_unset kind (at xs 3) (at xs 1) y (g.each 3 (omega arith)).ruled m);
+      instead = (cast_most (at xs 4) (omega arith) (w 4 (omega arith)), λ m. nothing_before _ (at xs 4) (at xs 3) (cast_back (at xs 4) (omega arith) (w 4 (omega arith))) (g.each 4 (omega arith)).ruled m);
+      wind = λ m. (no_potential kind (at xs 1) y _ s sides.0 es m, no_potential kind (at xs 1) y _ t sides.1 et m);
+      charging = λ m. (lsl_up kind (at xs 1) y _ s sides.0 es m, lsl_up kind (at xs 1) y _ t sides.1 et m);
+    }
 
 pub returns : goal.returns
 returns c =
     let xs = c.args.list.now in
-    let g : AllKept Resource xs = c.in-ok-check.ensures in
+    let g : AllKept Resource xs = c.in_ok-check.ensures in
     let w = (whole_kept Resource xs g).limited in (
       g,
       cons_same (cast_back (at xs 0) (omega arith) (w 0 (omega arith)))
-          (cons_same (c.kind-of.ensures ∙ read_back (at xs 1) (omega arith) (w 1 (omega arith)))
+          (cons_same (c.kind_of.ensures ∙ read_back (at xs 1) (omega arith) (w 1 (omega arith)))
           (cons_same (mark_back (at xs 2) (w 2 (omega arith)))
           (cons_same (mark_back (at xs 3) (w 3 (omega arith)))
           (cons_same (cast_back (at xs 4) (omega arith) (w 4 (omega arith)))
-          (append_same c.resource-side.ensures c.resource-side-2.ensures ∙ sym c.split-at.ensures.by_index.0 ∙ take_rest xs (length resource_head))))))
+          (append_same c.resource_side.ensures c.resource_side-2.ensures ∙ sym c.split_at.ensures.by_index.0 ∙ take_rest xs (length resource_head))))))
           ∙ firsts_and_rest (length resource_head) xs (omega (arith, g.long)),
     )

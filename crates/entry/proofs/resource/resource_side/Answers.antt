@@ -15,19 +15,19 @@ nine-requires-2 c = (c.requires.0, inner_kept cop_at sub_types resource_side c.r
 pub nine-requires-3 : goal.nine-requires-3
 nine-requires-3 c = (c.requires.0, inner_kept qualified_at sub_types resource_side c.requires.0 c.args.list.now c.requires.1 (omega arith))
 
-pub invariant-of-result : goal.invariant-of-result
-invariant-of-result c =
+pub invariant_of-result : goal.invariant_of-result
+invariant_of-result c =
     let h = c.requires.1.limited 1 (omega arith) in
     let l = c.requires.1.limited 2 (omega arith) in
     let p = c.requires.1.limited 3 (omega arith) in
     let span = (c.requires.1.ruled 1 (omega arith)).0 in
-    ((omega (arith, ints), omega (arith, ints), c.nine.ensures.powers, c.nine-2.ensures.powers, c.nine-3.ensures.powers), ((omega (arith, ints), omega (arith, ints)), tt))
+    record { powers = (omega (arith, ints), omega (arith, ints), c.nine.ensures.powers, c.nine-2.ensures.powers, c.nine-3.ensures.powers); span = (omega (arith, ints), omega (arith, ints)) }
 
 pub returns : goal.returns
 returns c =
     let xs = c.args.list.now in
     let w = c.requires.1.limited in
-    cons_same (c.status-of.ensures ∙ read_back (at xs 0) (omega arith) (w 0 (omega arith)))
+    cons_same (c.status_of.ensures ∙ read_back (at xs 0) (omega arith) (w 0 (omega arith)))
     (cons_same (cast_back (at xs 1) (omega arith) (w 1 (omega arith)))
     (cons_same (signed_back (at xs 2) (w 2 (omega arith)))
     (cons_same (cast_back (at xs 3) (omega arith) (w 3 (omega arith)))

@@ -8,22 +8,22 @@ use Rattle.entry.proofs.Joined.{cons_same, firsts_and_rest}
 use Rattle.entry.proofs.Parts.{whole_kept}
 use Rattle.entry.proofs.trade.trade_row.Goals as goal
 
-pub overflow-cast-result : goal.overflow-cast-result
-overflow-cast-result c =
-    let g : AllKept Trade c.args.list.now = c.in-ok-check.ensures in
+pub overflow_cast-result : goal.overflow_cast-result
+overflow_cast-result c =
+    let g : AllKept Trade c.args.list.now = c.in_ok-check.ensures in
     cast_16 (at c.args.list.now 3) (g.each 3 (omega arith)).limited
 
 pub returns : goal.returns
 returns c =
     let xs = c.args.list.now in
-    let g : AllKept Trade xs = c.in-ok-check.ensures in
+    let g : AllKept Trade xs = c.in_ok-check.ensures in
     let w = (whole_kept Trade xs g).limited in
     record {
       entered = (
         g,
-        cons_same (c.traded-of.ensures.kind ∙ read_back (at xs 0) (omega arith) (w 0 (omega arith)))
-            (cons_same (c.traded-of.ensures.sub ∙ read_back (at xs 1) (omega arith) (w 1 (omega arith)))
-            (cons_same (c.sides-of.ensures ∙ read_back (at xs 2) (omega arith) (w 2 (omega arith)))
+        cons_same (c.traded_of.ensures.kind ∙ read_back (at xs 0) (omega arith) (w 0 (omega arith)))
+            (cons_same (c.traded_of.ensures.sub ∙ read_back (at xs 1) (omega arith) (w 1 (omega arith)))
+            (cons_same (c.sides_of.ensures ∙ read_back (at xs 2) (omega arith) (w 2 (omega arith)))
             (cons_same (cast_back (at xs 3) (omega arith) (w 3 (omega arith)))
             (cons_same (cast_back (at xs 4) (omega arith) (w 4 (omega arith)))
             (cons_same (cast_back (at xs 5) (omega arith) (w 5 (omega arith)))

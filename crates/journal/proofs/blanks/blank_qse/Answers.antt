@@ -3,5 +3,5 @@ use Rattle.std.proofs.lemmas.Int.{ints}
 use Rattle.journal.proofs.Zeros.{nine_zeros}
 use Rattle.journal.proofs.blanks.blank_qse.Goals as goal
 
-pub invariant-of-side : goal.invariant-of-side
-invariant-of-side c = ((omega arith, nine_zeros), (omega (arith, ints), omega (arith, ints)))
+pub invariant_of-side : goal.invariant_of-side
+invariant_of-side c = ((omega arith, nine_zeros), (omega (arith, ints), omega (arith, ints)))

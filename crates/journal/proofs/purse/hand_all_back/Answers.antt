@@ -13,8 +13,8 @@ loop-place-preserved-in-None c =
     front_held (state_of b c.args.qses.now c.args.loads.now c.args.resources.now c.args.trades.now) p
     (subst (λ l. Holding (desk_of b c.args.qses.now c.args.loads.now c.args.resources.now c.args.trades.now [] l)) items c.loop-place.invariant)
 
-pub hand-back-requires : goal.hand-back-requires
-hand-back-requires c =
+pub hand_back-requires : goal.hand_back-requires
+hand_back-requires c =
     let p = vec_items c.pop.new.self in
     let b = struck_book c.loop-place.book in
     let s = state_of b c.args.qses.now c.args.loads.now c.args.resources.now c.args.trades.now in
@@ -29,4 +29,4 @@ loop-place-preserved c =
     let s = state_of b c.args.qses.now c.args.loads.now c.args.resources.now c.args.trades.now in
     let items = c.in-Some.ensures.items ∙ ap (λ o. p ++ o ∷ []) c.in-Some-place.is in
     let held = subst (λ l. Holding (desk_of b c.args.qses.now c.args.loads.now c.args.resources.now c.args.trades.now [] l)) items c.loop-place.invariant in
-    back_held s p c.in-Some-place.claim held (struck_book c.hand-back.new.book) refl c.hand-back.ensures
+    back_held s p c.in-Some-place.claim held (struck_book c.hand_back.new.book) refl c.hand_back.ensures

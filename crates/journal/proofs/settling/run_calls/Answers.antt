@@ -9,7 +9,7 @@ returns c =
     let last = c.replay.new in
     let after = c.replay.ensures.guarantee _ _ _ (c.args.book.number, c.requires.opened) c.replay.ensures.run in
     held_moved (any_book c.replay.result) last.qses _ last.loads _ last.resources _ last.trades _ last.covers last.purse _ (after.claims_held c.requires.empty)
-    (take_at last.qses _ _ (omega (arith, c.replay.auto.qses, c.as-mut-slice.ensures.len)))
-    (take_at last.loads _ _ (omega (arith, c.replay.auto.loads, c.as-mut-slice-2.ensures.len)))
-    (take_at last.resources _ _ (omega (arith, c.replay.auto.resources, c.as-mut-slice-3.ensures.len)))
-    (take_at last.trades _ _ (omega (arith, c.replay.auto.trades, c.as-mut-slice-4.ensures.len))) refl
+    (take_at last.qses _ _ (omega (arith, c.replay.auto.qses, c.as_mut_slice.ensures.len)))
+    (take_at last.loads _ _ (omega (arith, c.replay.auto.loads, c.as_mut_slice-2.ensures.len)))
+    (take_at last.resources _ _ (omega (arith, c.replay.auto.resources, c.as_mut_slice-3.ensures.len)))
+    (take_at last.trades _ _ (omega (arith, c.replay.auto.trades, c.as_mut_slice-4.ensures.len))) refl

@@ -9,10 +9,10 @@ use Rattle.measure.proofs.LineTotals.{levels_same}
 use Rattle.measure.proofs.OverallParts.{overall_ignored}
 use Rattle.measure.proofs.grouped_parts.break_down.Goals as goal
 
-pub overflow-add-reserve : goal.overflow-add-reserve
-overflow-add-reserve c =
+pub overflow_add-reserve : goal.overflow_add-reserve
+overflow_add-reserve c =
     let few = c.less-levels.ensures.small 46170000000 c.of-asked.ensures.small in
-    record { fits = omega (arith, c.worst-upward.ensures.small 46170000000 few, few.regdown) }
+    record { fits = omega (arith, c.worst_upward.ensures.small 46170000000 few, few.regdown) }
 
 pub returns : goal.returns
 returns c =
@@ -26,9 +26,9 @@ returns c =
     let levels : IsLevels c.less-levels.result (λ ks. level ks v) = c.less-levels.ensures.value _ _ asks totals.served in
     let fits : SFits w64 c.standing-standing.result.net = search rules in
     let net : to_z w64 (of_z w64 c.standing-standing.result.net) ≡ v.net = to_z-of_z w64 c.standing-standing.result.net fits ∙ stands.net in
-    let whole : c.overall-part-overall.result ≡ overall (unstored v) = c.overall-part-overall.ensures ∙ overall_ignored a _ _ _ stands totals.supply totals.offline in
-    let worst = c.worst-upward.ensures.value in
-    let reserved : c.worst-upward.result + c.less-levels.result.reg_down ≡ reserve v = cc (worst, levels.regup, levels.rrs, levels.fast, levels.ecrs, levels.up, levels.regdown) in
+    let whole : c.overall_part-overall.result ≡ overall (unstored v) = c.overall_part-overall.ensures ∙ overall_ignored a _ _ _ stands totals.supply totals.offline in
+    let worst = c.worst_upward.ensures.value in
+    let reserved : c.worst_upward.result + c.less-levels.result.reg_down ≡ reserve v = cc (worst, levels.regup, levels.rrs, levels.fast, levels.ecrs, levels.up, levels.regdown) in
     record {
       load = stands.load;
       net = net;

@@ -6,7 +6,7 @@ use Rattle.replay.proofs.opens.on_open.Goals as goal
 pub returns-then-j-measures-2 : goal.returns-then-j-measures-2
 returns-then-j-measures-2 g c =
     λ p. open_call _ _ _ _ _ _ c.in-Strike.is
-    (strike_named g.M.Measure.meaning c.args.measures.now c.in-Strike.j _ _ _ c.index-measures-j-then-j-measures-2.result c.if-j-measures-2.true c.index-measures-j-then-j-measures-2.is (c.strike-open.ensures c.args.covers.now p))
+    (strike_named g.M.Measure.meaning c.args.measures.now c.in-Strike.j _ _ _ c.index-measures-j-then-j-measures-2.result c.if-j-measures-2.true c.index-measures-j-then-j-measures-2.is (c.strike_open.ensures c.args.covers.now p))
 
 pub returns-in-Enrol : goal.returns-in-Enrol
 returns-in-Enrol g c =

@@ -4,16 +4,16 @@ use Rattle.replay.specs.Runs.{desk_of}
 use Rattle.replay.proofs.Purses.{taken_free, none_taken, put_back}
 use Rattle.replay.proofs.strucks.hand_back_at.Goals as goal
 
-pub put-claim-requires : goal.put-claim-requires
-put-claim-requires c =
+pub put_claim-requires : goal.put_claim-requires
+put_claim-requires c =
     let t = c.in-Some.ensures in
-    let f = taken_free c.args.purse.now c.take-claim.new.purse c.args.place c.in-Some.claim t.value t.after in
+    let f = taken_free c.args.purse.now c.take_claim.new.purse c.args.place c.in-Some.claim t.value t.after in
     record { within = f.0; free = f.1 }
 
 pub returns-in-None : goal.returns-in-None
 returns-in-None c =
     let t = c.in-None.ensures in
-    λ cs. inr (sym t.value, record { answer = refl; same = ap (λ p. desk_of (struck_book c.args.book.now) c.args.qses.now c.args.loads.now c.args.resources.now c.args.trades.now cs p) (none_taken c.args.purse.now c.take-claim.new.purse c.args.place t.value t.after) })
+    λ cs. inr (sym t.value, record { answer = refl; same = ap (λ p. desk_of (struck_book c.args.book.now) c.args.qses.now c.args.loads.now c.args.resources.now c.args.trades.now cs p) (none_taken c.args.purse.now c.take_claim.new.purse c.args.place t.value t.after) })
 
 pub returns-in-Ok : goal.returns-in-Ok
 returns-in-Ok c =
@@ -31,5 +31,5 @@ returns-in-Err c =
       done = e;
       answer = refl;
       covers = refl;
-      purse = put_back c.args.purse.now c.take-claim.new.purse c.put-claim.new.purse c.args.place c.in-Some.claim c.in-Err.refused.0 t.value t.after c.put-claim.ensures e.1;
+      purse = put_back c.args.purse.now c.take_claim.new.purse c.put_claim.new.purse c.args.place c.in-Some.claim c.in-Err.refused.0 t.value t.after c.put_claim.ensures e.1;
     })

@@ -12,4 +12,4 @@ pub returns-in-Claim : goal.returns-in-Claim
 returns-in-Claim c =
     let one : SFits w64 c.in-Claim.cents = search rules in
     let two : SFits w64 c.in-Claim.rate = search rules in
-    λ cs. struck_call _ _ _ _ _ c.in-Claim.is (simp to_z-of_z at (c.claim-next-answer.ensures cs))
+    λ cs. struck_call _ _ _ _ _ c.in-Claim.is (simp to_z-of_z at (c.claim_next-answer.ensures cs))

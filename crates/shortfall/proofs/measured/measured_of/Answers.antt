@@ -9,8 +9,8 @@ use Rattle.shortfall.specs.Shortfall.{shortfall_of}
 use Rattle.shortfall.specs.Strike.{row_short}
 use Rattle.shortfall.proofs.measured.measured_of.Goals as goal
 
-pub overflow-add-sum : goal.overflow-add-sum
-overflow-add-sum g c = record { fits = omega (arith, c.loop-i.invariant.1, c.from-sum.ensures, c.short-of-s.ensures.small, c.loop-i-test.true) }
+pub overflow_add-sum : goal.overflow_add-sum
+overflow_add-sum g c = record { fits = omega (arith, c.loop-i.invariant.1, c.from-sum.ensures, c.short_of-s.ensures.small, c.loop-i-test.true) }
 
 pub loop-i-preserved : goal.loop-i-preserved
 loop-i-preserved g c =
@@ -20,10 +20,10 @@ loop-i-preserved g c =
     let x = c.index-rows-i.result in
     let inv = c.loop-i.invariant in
     let lt = c.loop-i-test.true in
-    let s-is = c.short-of-s.ensures.value in
+    let s-is = c.short_of-s.ensures.value in
     let P : ℕ → Type 0 = λ k. k < 64 → (d : QseRow) → get_or c.keep.new.first k 0 ≡ f (get_or R k d) in (
       sum_turn f R _ x lt c.index-rows-i.is inv.0 (c.from-sum.ensures ∙ s-is),
-      omega (arith, inv.1, c.from-sum.ensures, c.short-of-s.ensures.small),
+      omega (arith, inv.1, c.from-sum.ensures, c.short_of-s.ensures.small),
       omega (arith, c.keep.auto.first, inv.2),
       below_more P i (λ k h few d. c.keep.ensures.others k h ∙ inv.3 k h few d) (λ few d. c.keep.ensures.here few ∙ s-is ∙ ap f (c.index-rows-i.is ∙ get_or_default R i x d lt)),
     )

@@ -16,7 +16,7 @@ returns g c =
     let laws = g.met.M.Measure in
     let first = ap m c.new-snapshot.ensures.view in
     let second = ap m c.new-adjusted.ensures.view in
-    let is : c.beyond-credit.result ≡ shortfall_of m (qse_own (plain_qse q) (plain_tables t)) = omega (arith, c.beyond-credit.ensures, first, second) in
+    let is : c.beyond_credit.result ≡ shortfall_of m (qse_own (plain_qse q) (plain_tables t)) = omega (arith, c.beyond_credit.ensures, first, second) in
     record {
       value = is;
       small = omega (arith, is, value_small (laws.bound c.args.m.now) q t Snapshot, value_small (laws.bound c.args.m.now) q t Adjusted);

@@ -13,8 +13,8 @@ use Rattle.shortfall.proofs.Turns.{read_old, write_turn, write_all}
 use Rattle.shortfall.proofs.strike.write_shortfalls.Goals as goal
 
 -- what was kept of a row that is written now
-pub short-at-s-requires : goal.short-at-s-requires
-short-at-s-requires g c κs few =
+pub short_at-s-requires : goal.short_at-s-requires
+short_at-s-requires g c κs few =
     let m = g.M.Measure.meaning c.args.m.now in
     let t = plain_tables c.args.tables in
     let R = c.args.rows.now in
@@ -22,11 +22,11 @@ short-at-s-requires g c κs few =
     let x = c.index-rows-i.result in
     let lt = c.loop-i-test.true in
     let old = read_old plain_qse (written m t) R c.loop-i.rows i c.loop-i.invariant lt (omega arith) x x in
-    c.measured-of-measured.ensures.first i lt few x
+    c.measured_of-measured.ensures.first i lt few x
     ∙ ap (row_short m t) (sym (get_or-map plain_qse R i x (plain_qse x) lt) ∙ sym old)
 
 -- a shortfall is at most their sum, which is not too high
-small : (g : Rattle.shortfall.proofs.strike.write_shortfalls.Given.Over) (c : goal.After-short-at-s g) → c.short-at-s.result ≤ max_shortfall
+small : (g : Rattle.shortfall.proofs.strike.write_shortfalls.Given.Over) (c : goal.After-short_at-s g) → c.short_at-s.result ≤ max_shortfall
 small g c =
     let m = g.M.Measure.meaning c.args.m.now in
     let t = plain_tables c.args.tables in
@@ -35,17 +35,17 @@ small g c =
     let x = c.index-rows-i.result in
     let old = read_old plain_qse (written m t) R c.loop-i.rows c.loop-i.i c.loop-i.invariant c.loop-i-test.true (omega arith) x x in
     let le = get_or-le-sum_by f (map plain_qse R) c.loop-i.i (plain_qse x) (omega (arith, c.loop-i-test.true, length-map R plain_qse)) in
-    let is = c.short-at-s.ensures ∙ ap f old in
-    omega (arith, le, is, sum_map (shortfall_of m) (λ q. qse_own q t) (map plain_qse R), c.measured-of-measured.ensures.sum, c.if-t-from.false, c.from.ensures)
+    let is = c.short_at-s.ensures ∙ ap f old in
+    omega (arith, le, is, sum_map (shortfall_of m) (λ q. qse_own q t) (map plain_qse R), c.measured_of-measured.ensures.sum, c.if-t-from.false, c.from.ensures)
 
 abbrev with_short : PlainQse → ℕ → PlainQse
 with_short q n = record { number = q.number; figures = q.figures; shortfall = n; cents = q.cents }
 
-pub overflow-cast-rows : goal.overflow-cast-rows
-overflow-cast-rows g c = record { fits = omega (arith, small g c) }
+pub overflow_cast-rows : goal.overflow_cast-rows
+overflow_cast-rows g c = record { fits = omega (arith, small g c) }
 
-pub invariant-of-rows : goal.invariant-of-rows
-invariant-of-rows g c d =
+pub invariant_of-rows : goal.invariant_of-rows
+invariant_of-rows g c d =
     let q = get_or c.loop-i.rows c.loop-i.i d in
     (omega arith, ((q.limits.0, small g c, q.limits.2), tt))
 
@@ -59,7 +59,7 @@ loop-i-preserved g c =
     let y = c.index-rows-i-in-loop-i.result in
     let here : i < length ys = omega arith in
     let q = plain_qse (get_or ys i y) in
-    let short : c.short-at-s.result ≡ row_short m t q = c.short-at-s.ensures ∙ ap (λ z. row_short m t (plain_qse z)) (get_or_default ys i x y here) in
+    let short : c.short_at-s.result ≡ row_short m t q = c.short_at-s.ensures ∙ ap (λ z. row_short m t (plain_qse z)) (get_or_default ys i x y here) in
     write_turn plain_qse (written m t) c.args.rows.now ys i c.loop-i.invariant c.loop-i-test.true here y _
     (ap (with_short q) short)
 
@@ -70,7 +70,7 @@ returns g c =
     let t = plain_tables c.args.tables in
     let laws = g.met.M.Measure in
     let R = c.args.rows.now in
-    let sum = c.measured-of-measured.ensures.sum in (
+    let sum = c.measured_of-measured.ensures.sum in (
       sum,
       omega (arith, c.from.ensures),
       write_all plain_qse (written m t) R c.loop-i.rows c.loop-i.i c.loop-i-test.false c.loop-i.invariant,

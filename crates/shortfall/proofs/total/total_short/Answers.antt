@@ -10,14 +10,14 @@ use Rattle.shortfall.proofs.Bounded.{pool_bounded}
 use Rattle.shortfall.proofs.PoolCovered.{sum_covers_pool}
 use Rattle.shortfall.proofs.total.total_short.Goals as goal
 
-pub overflow-add-sum : goal.overflow-add-sum
-overflow-add-sum g c = record { fits = omega (arith, c.loop-row.invariant.1, c.from-sum.ensures, c.short-of.ensures.small, c.loop-row-test.true) }
+pub overflow_add-sum : goal.overflow_add-sum
+overflow_add-sum g c = record { fits = omega (arith, c.loop-row.invariant.1, c.from-sum.ensures, c.short_of.ensures.small, c.loop-row-test.true) }
 
 pub loop-row-preserved : goal.loop-row-preserved
 loop-row-preserved g c =
     let f : QseRow → ℕ = λ q. row_short (g.M.Measure.meaning c.args.m.now) (plain_tables c.args.tables) (plain_qse q) in (
-      sum_turn f c.args.rows.now _ c.row-item.result c.loop-row-test.true c.row-item.is c.loop-row.invariant.0 (c.from-sum.ensures ∙ c.short-of.ensures.value),
-      omega (arith, c.loop-row.invariant.1, c.from-sum.ensures, c.short-of.ensures.small),
+      sum_turn f c.args.rows.now _ c.row-item.result c.loop-row-test.true c.row-item.is c.loop-row.invariant.0 (c.from-sum.ensures ∙ c.short_of.ensures.value),
+      omega (arith, c.loop-row.invariant.1, c.from-sum.ensures, c.short_of.ensures.small),
     )
 
 pub returns : goal.returns

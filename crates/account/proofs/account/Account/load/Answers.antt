@@ -8,7 +8,7 @@ use Rattle.account.proofs.account.Account.load.Goals as goal
 pub loop-l-preserved : goal.loop-l-preserved
 loop-l-preserved c =
     let a = c.args.self.now in
-    (sum_turn (load_in a.qse) a.loads.now _ c.l-item.result c.loop-l-test.true c.l-item.is c.loop-l.invariant.0 c.load-in-sum.ensures.value, omega (arith, c.loop-l.invariant.1, c.load-in-sum.ensures.small))
+    (sum_turn (load_in a.qse) a.loads.now _ c.l-item.result c.loop-l-test.true c.l-item.is c.loop-l.invariant.0 c.load_in-sum.ensures.value, omega (arith, c.loop-l.invariant.1, c.load_in-sum.ensures.small))
 
 pub returns : goal.returns
 returns c =

@@ -13,9 +13,9 @@ loop-k-preserved c =
     let z = get_or s.positions c.loop-k.k (pos 0) in
     let lt : c.loop-k.k < length xs = omega arith in
     let fits : SFits w64 z = search rules in
-    let is : c.not-below-zero.result ≡ counted z = c.not-below-zero.ensures ∙ ap counted (to_z-of_z w64 z fits) in
+    let is : c.not_below_zero.result ≡ counted z = c.not_below_zero.ensures ∙ ap counted (to_z-of_z w64 z fits) in
     let low = s.low c.loop-k.k in (
       simp length-set c.loop-k.invariant.0,
-      set_below xs c.loop-k.k c.not-below-zero.result 0 lt (λ k x. x ≡ counted (get_or s.positions k (pos 0))) c.loop-k.invariant.1 is,
-      set_every xs c.loop-k.k c.not-below-zero.result 0 lt (λ x. x ≤ 5130000000) c.loop-k.invariant.2 (omega (arith, ints, is, counted_is z)),
+      set_below xs c.loop-k.k c.not_below_zero.result 0 lt (λ k x. x ≡ counted (get_or s.positions k (pos 0))) c.loop-k.invariant.1 is,
+      set_every xs c.loop-k.k c.not_below_zero.result 0 lt (λ x. x ≤ 5130000000) c.loop-k.invariant.2 (omega (arith, ints, is, counted_is z)),
     )

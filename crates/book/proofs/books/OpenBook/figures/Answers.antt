@@ -14,45 +14,45 @@ use Rattle.book.proofs.Enrolling.{place_taken}
 use Rattle.book.proofs.Figuring.{figured_rows}
 use Rattle.book.proofs.books.OpenBook.figures.Goals as goal
 
-pub returns-then-is-broken : goal.returns-then-is-broken
-returns-then-is-broken c = (inl (table_broken (open_book c.args.self.now) c.args.qses.now c.args.loads.now c.args.resources.now c.args.trades.now _ c.is-broken.ensures c.if-is-broken.true), refl)
+pub returns-then-is_broken : goal.returns-then-is_broken
+returns-then-is_broken c = (inl (table_broken (open_book c.args.self.now) c.args.qses.now c.args.loads.now c.args.resources.now c.args.trades.now _ c.is_broken.ensures c.if-is_broken.true), refl)
 
-pub returns-in-err-number : goal.returns-in-err-number
-returns-in-err-number c =
+pub returns-in_err-number : goal.returns-in_err-number
+returns-in_err-number c =
     let p = err_from_is_err_and c.from-residual.result c.from-residual.ensures.1 in
     let b = open_book c.args.self.now in
     let s = state_of b c.args.qses.now c.args.loads.now c.args.resources.now c.args.trades.now in
-    let sound = table_sound b c.args.qses.now c.args.loads.now c.args.resources.now c.args.trades.now _ c.is-broken.ensures c.if-is-broken.false in
-    rw (p.1, p.2) (inr (sound, inl c.in-err-number.ensures), refl)
+    let sound = table_sound b c.args.qses.now c.args.loads.now c.args.resources.now c.args.trades.now _ c.is_broken.ensures c.if-is_broken.false in
+    rw (p.1, p.2) (inr (sound, inl c.in_err-number.ensures), refl)
 
-pub returns-in-default : goal.returns-in-default
-returns-in-default c =
+pub returns-in_default : goal.returns-in_default
+returns-in_default c =
     let b = open_book c.args.self.now in
     let s = state_of b c.args.qses.now c.args.loads.now c.args.resources.now c.args.trades.now in
-    let sound = table_sound b c.args.qses.now c.args.loads.now c.args.resources.now c.args.trades.now _ c.is-broken.ensures c.if-is-broken.false in
-    let entered = c.in-ok-number.ensures in
+    let sound = table_sound b c.args.qses.now c.args.loads.now c.args.resources.now c.args.trades.now _ c.is_broken.ensures c.if-is_broken.false in
+    let entered = c.in_ok-number.ensures in
     let q = ap (λ l. counted (at l 0)) entered.1 in
-    let none = no_row b c.args.qses.now c.args.loads.now c.args.resources.now c.args.trades.now _ c.in-default.ensures in
+    let none = no_row b c.args.qses.now c.args.loads.now c.args.resources.now c.args.trades.now _ c.in_default.ensures in
     (inr (sound, inr (nothing_refused Figures _ entered.0, inl (subst (λ n. unenrolled s n NotEnrolled) q none))), refl)
 
-pub offset-bounds-qses-place : goal.offset-bounds-qses-place
-offset-bounds-qses-place c = record { fits = omega (arith, (place_taken (λ x. x.number) c.args.qses.now (c.args.self.now.counts.qses - 0) c.in-Some.place c.in-Some.ensures.inside).0, c.args.self.now.counts.few.0) }
+pub offset_bounds-qses-place : goal.offset_bounds-qses-place
+offset_bounds-qses-place c = record { fits = omega (arith, (place_taken (λ x. x.number) c.args.qses.now (c.args.self.now.counts.qses - 0) c.in-Some.place c.in-Some.ensures.inside).0, c.args.self.now.counts.few.0) }
 
 pub bounds-qses-place : goal.bounds-qses-place
 bounds-qses-place c = (place_taken (λ x. x.number) c.args.qses.now (c.args.self.now.counts.qses - 0) c.in-Some.place c.in-Some.ensures.inside).1
 
-pub invariant-of-qses : goal.invariant-of-qses
-invariant-of-qses c d = ((place_taken (λ x. x.number) c.args.qses.now (c.args.self.now.counts.qses - 0) c.in-Some.place c.in-Some.ensures.inside).1, ((get_or c.args.qses.now c.in-Some.place d).limits, tt))
+pub invariant_of-qses : goal.invariant_of-qses
+invariant_of-qses c d = ((place_taken (λ x. x.number) c.args.qses.now (c.args.self.now.counts.qses - 0) c.in-Some.place c.in-Some.ensures.inside).1, ((get_or c.args.qses.now c.in-Some.place d).limits, tt))
 
 pub returns : goal.returns
 returns c =
     let b = open_book c.args.self.now in
     let s = state_of b c.args.qses.now c.args.loads.now c.args.resources.now c.args.trades.now in
-    let sound = table_sound b c.args.qses.now c.args.loads.now c.args.resources.now c.args.trades.now _ c.is-broken.ensures c.if-is-broken.false in
-    let entered = c.in-ok-number.ensures in
+    let sound = table_sound b c.args.qses.now c.args.loads.now c.args.resources.now c.args.trades.now _ c.is_broken.ensures c.if-is_broken.false in
+    let entered = c.in_ok-number.ensures in
     let q = ap (λ l. counted (at l 0)) entered.1 in
     let found = some_row b c.args.qses.now c.args.loads.now c.args.resources.now c.args.trades.now _ c.in-Some.place c.in-Some.ensures in
-    let first = subst (λ n. Earliest (map (λ x. x.number) (take n c.args.qses.now)) c.in-ok-number.number c.in-Some.place) (omega arith) c.in-Some.ensures in (
+    let first = subst (λ n. Earliest (map (λ x. x.number) (take n c.args.qses.now)) c.in_ok-number.number c.in-Some.place) (omega arith) c.in-Some.ensures in (
       (sound, (nothing_refused Figures _ entered.0, (subst (λ n. Absent (unenrolled s n)) q found, tt))),
-      (plain_figures c.in-ok-number.figures, subst (λ n. figures_numbers n (plain_figures c.in-ok-number.figures) ≡ c.args.list.now) q entered.1, ap (λ l. with_qses s l) (figured_rows c.in-ok-number.number (plain_figures c.in-ok-number.figures) c.index-qses-place.result _ c.args.qses.now b.qses c.in-Some.place first refl ∙ ap (λ n. refigured n (plain_figures c.in-ok-number.figures) (qse_rows s) ++ drop b.qses s.qses) q)),
+      (plain_figures c.in_ok-number.figures, subst (λ n. figures_numbers n (plain_figures c.in_ok-number.figures) ≡ c.args.list.now) q entered.1, ap (λ l. with_qses s l) (figured_rows c.in_ok-number.number (plain_figures c.in_ok-number.figures) c.index-qses-place.result _ c.args.qses.now b.qses c.in-Some.place first refl ∙ ap (λ n. refigured n (plain_figures c.in_ok-number.figures) (qse_rows s) ++ drop b.qses s.qses) q)),
     )

@@ -12,44 +12,44 @@ use Rattle.book.specs.State.{open_book, state_of, with_book, with_counts, with_l
 use Rattle.book.proofs.Judging.{table_broken, table_sound, not_enrolled, is_among, nothing_refused, has_place}
 use Rattle.book.proofs.books.OpenBook.load.Goals as goal
 
-pub returns-then-is-broken : goal.returns-then-is-broken
-returns-then-is-broken c = (inl (table_broken (open_book c.args.self.now) c.args.qses.now c.args.loads.now c.args.resources.now c.args.trades.now _ c.is-broken.ensures c.if-is-broken.true), refl)
+pub returns-then-is_broken : goal.returns-then-is_broken
+returns-then-is_broken c = (inl (table_broken (open_book c.args.self.now) c.args.qses.now c.args.loads.now c.args.resources.now c.args.trades.now _ c.is_broken.ensures c.if-is_broken.true), refl)
 
-pub returns-in-err-row : goal.returns-in-err-row
-returns-in-err-row c =
+pub returns-in_err-row : goal.returns-in_err-row
+returns-in_err-row c =
     let p = err_from_is_err_and c.from-residual.result c.from-residual.ensures.1 in
-    let sound = table_sound (open_book c.args.self.now) c.args.qses.now c.args.loads.now c.args.resources.now c.args.trades.now _ c.is-broken.ensures c.if-is-broken.false in
-    rw (p.1, p.2) (inr (sound, inl c.in-err-row.ensures.entered), refl)
+    let sound = table_sound (open_book c.args.self.now) c.args.qses.now c.args.loads.now c.args.resources.now c.args.trades.now _ c.is_broken.ensures c.if-is_broken.false in
+    rw (p.1, p.2) (inr (sound, inl c.in_err-row.ensures.entered), refl)
 
-pub returns-then-not-is-enrolled : goal.returns-then-not-is-enrolled
-returns-then-not-is-enrolled c =
+pub returns-then-not-is_enrolled : goal.returns-then-not-is_enrolled
+returns-then-not-is_enrolled c =
     let b = open_book c.args.self.now in
     let s = state_of b c.args.qses.now c.args.loads.now c.args.resources.now c.args.trades.now in
-    let entered = c.in-ok-row.ensures.entered in
+    let entered = c.in_ok-row.ensures.entered in
     let q = ap (λ l. counted (at l 0)) entered.1 in
-    let sound = table_sound b c.args.qses.now c.args.loads.now c.args.resources.now c.args.trades.now _ c.is-broken.ensures c.if-is-broken.false in
-    let out = not_enrolled b c.args.qses.now c.args.loads.now c.args.resources.now c.args.trades.now _ _ c.is-enrolled.ensures c.if-not-is-enrolled.true in
+    let sound = table_sound b c.args.qses.now c.args.loads.now c.args.resources.now c.args.trades.now _ c.is_broken.ensures c.if-is_broken.false in
+    let out = not_enrolled b c.args.qses.now c.args.loads.now c.args.resources.now c.args.trades.now _ _ c.is_enrolled.ensures c.if-not-is_enrolled.true in
     (inr (sound, inr (nothing_refused Load _ entered.0, inl (subst (λ n. unenrolled s n NotEnrolled) q out))), refl)
 
-pub returns-then-at-ge-MAX-ROWS : goal.returns-then-at-ge-MAX-ROWS
-returns-then-at-ge-MAX-ROWS c =
+pub returns-then-at-ge-MAX_ROWS : goal.returns-then-at-ge-MAX_ROWS
+returns-then-at-ge-MAX_ROWS c =
     let b = open_book c.args.self.now in
     let s = state_of b c.args.qses.now c.args.loads.now c.args.resources.now c.args.trades.now in
-    let entered = c.in-ok-row.ensures.entered in
+    let entered = c.in_ok-row.ensures.entered in
     let q = ap (λ l. counted (at l 0)) entered.1 in
-    let sound = table_sound b c.args.qses.now c.args.loads.now c.args.resources.now c.args.trades.now _ c.is-broken.ensures c.if-is-broken.false in
-    let known = is_among b c.args.qses.now c.args.loads.now c.args.resources.now c.args.trades.now _ _ c.is-enrolled.ensures c.if-not-is-enrolled.false in
-    (inr (sound, inr (nothing_refused Load _ entered.0, inr (subst (λ n. Absent (unenrolled s n)) q known, inl (refl, elim c.then-at-ge-MAX-ROWS.either [ inl h ↦ inl h | inr h ↦ inr (omega (arith, h, length-map c.args.loads.now plain_load)) ])))), refl)
+    let sound = table_sound b c.args.qses.now c.args.loads.now c.args.resources.now c.args.trades.now _ c.is_broken.ensures c.if-is_broken.false in
+    let known = is_among b c.args.qses.now c.args.loads.now c.args.resources.now c.args.trades.now _ _ c.is_enrolled.ensures c.if-not-is_enrolled.false in
+    (inr (sound, inr (nothing_refused Load _ entered.0, inr (subst (λ n. Absent (unenrolled s n)) q known, inl (refl, elim c.then-at-ge-MAX_ROWS.either [ inl h ↦ inl h | inr h ↦ inr (omega (arith, h, length-map c.args.loads.now plain_load)) ])))), refl)
 
 pub returns : goal.returns
 returns c =
     let b = open_book c.args.self.now in
     let s = state_of b c.args.qses.now c.args.loads.now c.args.resources.now c.args.trades.now in
-    let entered = c.in-ok-row.ensures.entered in
+    let entered = c.in_ok-row.ensures.entered in
     let q = ap (λ l. counted (at l 0)) entered.1 in
-    let sound = table_sound b c.args.qses.now c.args.loads.now c.args.resources.now c.args.trades.now _ c.is-broken.ensures c.if-is-broken.false in
-    let known = is_among b c.args.qses.now c.args.loads.now c.args.resources.now c.args.trades.now _ _ c.is-enrolled.ensures c.if-not-is-enrolled.false in
-    let row = c.in-ok-row.row in (
+    let sound = table_sound b c.args.qses.now c.args.loads.now c.args.resources.now c.args.trades.now _ c.is_broken.ensures c.if-is_broken.false in
+    let known = is_among b c.args.qses.now c.args.loads.now c.args.resources.now c.args.trades.now _ _ c.is_enrolled.ensures c.if-not-is_enrolled.false in
+    let row = c.in_ok-row.row in (
       (sound, (nothing_refused Load _ entered.0, (subst (λ n. Absent (unenrolled s n)) q known, (has_place b.loads max_rows (length s.loads) (omega arith) (omega (arith, length-map c.args.loads.now plain_load)), tt)))),
-      (plain_load row, entered.1, c.in-ok-row.ensures.uncharged, ap (λ l. with_loads (with_book s (with_counts b b.qses (b.loads + 1) b.resources b.trades)) l) (map-set plain_load c.args.loads.now b.loads row)),
+      (plain_load row, entered.1, c.in_ok-row.ensures.uncharged, ap (λ l. with_loads (with_book s (with_counts b b.qses (b.loads + 1) b.resources b.trades)) l) (map-set plain_load c.args.loads.now b.loads row)),
     )

@@ -8,26 +8,26 @@ use Rattle.book.proofs.Enrolling.{place_taken}
 use Rattle.book.proofs.Owning.{short_at_place}
 use Rattle.book.proofs.books.OpenBook.short.Goals as goal
 
-pub returns-then-is-broken : goal.returns-then-is-broken
-returns-then-is-broken g c = inl (table_broken (open_book c.args.self.now) c.args.qses.now c.args.loads.now c.args.resources.now c.args.trades.now _ c.is-broken.ensures c.if-is-broken.true)
+pub returns-then-is_broken : goal.returns-then-is_broken
+returns-then-is_broken g c = inl (table_broken (open_book c.args.self.now) c.args.qses.now c.args.loads.now c.args.resources.now c.args.trades.now _ c.is_broken.ensures c.if-is_broken.true)
 
-pub returns-in-err-number : goal.returns-in-err-number
-returns-in-err-number g c =
+pub returns-in_err-number : goal.returns-in_err-number
+returns-in_err-number g c =
     let p = err_from_is_err_and c.from-residual.result c.from-residual.ensures.1 in
-    let sound = table_sound (open_book c.args.self.now) c.args.qses.now c.args.loads.now c.args.resources.now c.args.trades.now _ c.is-broken.ensures c.if-is-broken.false in
-    rw (p.1, p.2) (inr (sound, inl (number_refused c.args.qse c.ranges.qse c.in-err-number.field-0.0 c.in-err-number.ensures)))
+    let sound = table_sound (open_book c.args.self.now) c.args.qses.now c.args.loads.now c.args.resources.now c.args.trades.now _ c.is_broken.ensures c.if-is_broken.false in
+    rw (p.1, p.2) (inr (sound, inl (number_refused c.args.qse c.ranges.qse c.in_err-number.field-0.0 c.in_err-number.ensures)))
 
-pub returns-in-default : goal.returns-in-default
-returns-in-default g c =
+pub returns-in_default : goal.returns-in_default
+returns-in_default g c =
     let b = open_book c.args.self.now in
-    let sound = table_sound b c.args.qses.now c.args.loads.now c.args.resources.now c.args.trades.now _ c.is-broken.ensures c.if-is-broken.false in
+    let sound = table_sound b c.args.qses.now c.args.loads.now c.args.resources.now c.args.trades.now _ c.is_broken.ensures c.if-is_broken.false in
     let q = c.args.qse in
-    let read = c.in-ok-number.ensures in
-    let none = named_nowhere q c.ranges.qse c.in-ok-number.number read b c.args.qses.now c.args.loads.now c.args.resources.now c.args.trades.now c.in-default.ensures in
-    inr (sound, inr ((number_read q c.ranges.qse c.in-ok-number.number read).0, inl none))
+    let read = c.in_ok-number.ensures in
+    let none = named_nowhere q c.ranges.qse c.in_ok-number.number read b c.args.qses.now c.args.loads.now c.args.resources.now c.args.trades.now c.in_default.ensures in
+    inr (sound, inr ((number_read q c.ranges.qse c.in_ok-number.number read).0, inl none))
 
-pub offset-bounds-qses-place : goal.offset-bounds-qses-place
-offset-bounds-qses-place g c = record { fits = omega (arith, (place_taken (λ x. x.number) c.args.qses.now (c.args.self.now.counts.qses - 0) c.in-Some.place c.in-Some.ensures.inside).0, c.args.self.now.counts.few.0) }
+pub offset_bounds-qses-place : goal.offset_bounds-qses-place
+offset_bounds-qses-place g c = record { fits = omega (arith, (place_taken (λ x. x.number) c.args.qses.now (c.args.self.now.counts.qses - 0) c.in-Some.place c.in-Some.ensures.inside).0, c.args.self.now.counts.few.0) }
 
 pub bounds-qses-place : goal.bounds-qses-place
 bounds-qses-place g c = (place_taken (λ x. x.number) c.args.qses.now (c.args.self.now.counts.qses - 0) c.in-Some.place c.in-Some.ensures.inside).1
@@ -36,12 +36,12 @@ pub returns : goal.returns
 returns g c =
     let m = g.M.Measure.meaning c.args.m.now in
     let b = open_book c.args.self.now in
-    let sound = table_sound b c.args.qses.now c.args.loads.now c.args.resources.now c.args.trades.now _ c.is-broken.ensures c.if-is-broken.false in
+    let sound = table_sound b c.args.qses.now c.args.loads.now c.args.resources.now c.args.trades.now _ c.is_broken.ensures c.if-is_broken.false in
     let q = c.args.qse in
-    let n = c.in-ok-number.number in
-    let read = c.in-ok-number.ensures in
+    let n = c.in_ok-number.number in
+    let read = c.in_ok-number.ensures in
     let number = number_read q c.ranges.qse n read in
     let first = c.in-Some.ensures in
     let found = named_somewhere q c.ranges.qse n read b c.args.qses.now c.args.loads.now c.args.resources.now c.args.trades.now c.in-Some.place first in
-    let value = short_at_place b c.args.qses.now c.args.loads.now c.args.resources.now c.args.trades.now n c.in-Some.place (counted q) first number.1 c.index-qses-place.result c.index-qses-place.is _ c.tables-of-tables.ensures m _ c.short-of.ensures.value in
+    let value = short_at_place b c.args.qses.now c.args.loads.now c.args.resources.now c.args.trades.now n c.in-Some.place (counted q) first number.1 c.index-qses-place.result c.index-qses-place.is _ c.tables_of-tables.ensures m _ c.short_of.ensures.value in
     ((sound, (number.0, (found, tt))), value)

@@ -12,64 +12,64 @@ use Rattle.book.specs.State.{open_book, state_of, with_book, with_counts, with_t
 use Rattle.book.proofs.Judging.{table_broken, table_sound, not_both, both_among, nothing_refused, has_place, two_parties}
 use Rattle.book.proofs.books.OpenBook.trade.Goals as goal
 
-pub returns-then-is-broken : goal.returns-then-is-broken
-returns-then-is-broken c = (inl (table_broken (open_book c.args.self.now) c.args.qses.now c.args.loads.now c.args.resources.now c.args.trades.now _ c.is-broken.ensures c.if-is-broken.true), refl)
+pub returns-then-is_broken : goal.returns-then-is_broken
+returns-then-is_broken c = (inl (table_broken (open_book c.args.self.now) c.args.qses.now c.args.loads.now c.args.resources.now c.args.trades.now _ c.is_broken.ensures c.if-is_broken.true), refl)
 
-pub returns-in-err-row : goal.returns-in-err-row
-returns-in-err-row c =
+pub returns-in_err-row : goal.returns-in_err-row
+returns-in_err-row c =
     let p = err_from_is_err_and c.from-residual.result c.from-residual.ensures.1 in
-    let sound = table_sound (open_book c.args.self.now) c.args.qses.now c.args.loads.now c.args.resources.now c.args.trades.now _ c.is-broken.ensures c.if-is-broken.false in
-    rw (p.1, p.2) (inr (sound, inl c.in-err-row.ensures.entered), refl)
+    let sound = table_sound (open_book c.args.self.now) c.args.qses.now c.args.loads.now c.args.resources.now c.args.trades.now _ c.is_broken.ensures c.if-is_broken.false in
+    rw (p.1, p.2) (inr (sound, inl c.in_err-row.ensures.entered), refl)
 
-pub returns-then-not-are-enrolled : goal.returns-then-not-are-enrolled
-returns-then-not-are-enrolled c =
+pub returns-then-not-are_enrolled : goal.returns-then-not-are_enrolled
+returns-then-not-are_enrolled c =
     let b = open_book c.args.self.now in
     let s = state_of b c.args.qses.now c.args.loads.now c.args.resources.now c.args.trades.now in
-    let entered = c.in-ok-row.ensures.entered in
+    let entered = c.in_ok-row.ensures.entered in
     let seller = ap (λ l. counted (at l 3)) entered.1 in
     let buyer = ap (λ l. counted (at l 4)) entered.1 in
-    let sound = table_sound b c.args.qses.now c.args.loads.now c.args.resources.now c.args.trades.now _ c.is-broken.ensures c.if-is-broken.false in
-    let out = not_both b c.args.qses.now c.args.loads.now c.args.resources.now c.args.trades.now _ _ _ c.are-enrolled.ensures c.if-not-are-enrolled.true in
-    (inr (sound, inr (nothing_refused Trade _ entered.0, inl (subst (λ n. unpartied s n (counted (at c.args.list.now 4)) NotEnrolled) seller (subst (λ n. unpartied s c.in-ok-row.row.seller n NotEnrolled) buyer out)))), refl)
+    let sound = table_sound b c.args.qses.now c.args.loads.now c.args.resources.now c.args.trades.now _ c.is_broken.ensures c.if-is_broken.false in
+    let out = not_both b c.args.qses.now c.args.loads.now c.args.resources.now c.args.trades.now _ _ _ c.are_enrolled.ensures c.if-not-are_enrolled.true in
+    (inr (sound, inr (nothing_refused Trade _ entered.0, inl (subst (λ n. unpartied s n (counted (at c.args.list.now 4)) NotEnrolled) seller (subst (λ n. unpartied s c.in_ok-row.row.seller n NotEnrolled) buyer out)))), refl)
 
 pub returns-then-row : goal.returns-then-row
 returns-then-row c =
     let b = open_book c.args.self.now in
     let s = state_of b c.args.qses.now c.args.loads.now c.args.resources.now c.args.trades.now in
-    let entered = c.in-ok-row.ensures.entered in
+    let entered = c.in_ok-row.ensures.entered in
     let seller = ap (λ l. counted (at l 3)) entered.1 in
     let buyer = ap (λ l. counted (at l 4)) entered.1 in
-    let sound = table_sound b c.args.qses.now c.args.loads.now c.args.resources.now c.args.trades.now _ c.is-broken.ensures c.if-is-broken.false in
-    let known = both_among b c.args.qses.now c.args.loads.now c.args.resources.now c.args.trades.now _ _ _ c.are-enrolled.ensures c.if-not-are-enrolled.false in
-    let parties = subst (λ n. Absent (unpartied s n (counted (at c.args.list.now 4)))) seller (subst (λ n. Absent (unpartied s c.in-ok-row.row.seller n)) buyer known) in
+    let sound = table_sound b c.args.qses.now c.args.loads.now c.args.resources.now c.args.trades.now _ c.is_broken.ensures c.if-is_broken.false in
+    let known = both_among b c.args.qses.now c.args.loads.now c.args.resources.now c.args.trades.now _ _ _ c.are_enrolled.ensures c.if-not-are_enrolled.false in
+    let parties = subst (λ n. Absent (unpartied s n (counted (at c.args.list.now 4)))) seller (subst (λ n. Absent (unpartied s c.in_ok-row.row.seller n)) buyer known) in
     (inr (sound, inr (nothing_refused Trade _ entered.0, inr (parties, inl (refl, sym buyer ∙ c.if-row.true ∙ seller)))), refl)
 
-pub returns-then-at-ge-MAX-ROWS : goal.returns-then-at-ge-MAX-ROWS
-returns-then-at-ge-MAX-ROWS c =
+pub returns-then-at-ge-MAX_ROWS : goal.returns-then-at-ge-MAX_ROWS
+returns-then-at-ge-MAX_ROWS c =
     let b = open_book c.args.self.now in
     let s = state_of b c.args.qses.now c.args.loads.now c.args.resources.now c.args.trades.now in
-    let entered = c.in-ok-row.ensures.entered in
+    let entered = c.in_ok-row.ensures.entered in
     let seller = ap (λ l. counted (at l 3)) entered.1 in
     let buyer = ap (λ l. counted (at l 4)) entered.1 in
-    let sound = table_sound b c.args.qses.now c.args.loads.now c.args.resources.now c.args.trades.now _ c.is-broken.ensures c.if-is-broken.false in
-    let known = both_among b c.args.qses.now c.args.loads.now c.args.resources.now c.args.trades.now _ _ _ c.are-enrolled.ensures c.if-not-are-enrolled.false in
-    let parties = subst (λ n. Absent (unpartied s n (counted (at c.args.list.now 4)))) seller (subst (λ n. Absent (unpartied s c.in-ok-row.row.seller n)) buyer known) in
+    let sound = table_sound b c.args.qses.now c.args.loads.now c.args.resources.now c.args.trades.now _ c.is_broken.ensures c.if-is_broken.false in
+    let known = both_among b c.args.qses.now c.args.loads.now c.args.resources.now c.args.trades.now _ _ _ c.are_enrolled.ensures c.if-not-are_enrolled.false in
+    let parties = subst (λ n. Absent (unpartied s n (counted (at c.args.list.now 4)))) seller (subst (λ n. Absent (unpartied s c.in_ok-row.row.seller n)) buyer known) in
     let two = two_parties (counted (at c.args.list.now 3)) (counted (at c.args.list.now 4)) (λ e. c.if-row.false (buyer ∙ e ∙ sym seller)) in
-    let many = elim c.then-at-ge-MAX-ROWS.either as (λ _. (max_rows ≤ b.trades) ⊎ (length s.trades ≤ b.trades)) [ inl h ↦ inl h | inr h ↦ inr (omega (arith, h, length-map c.args.trades.now plain_trade)) ] in
+    let many = elim c.then-at-ge-MAX_ROWS.either as (λ _. (max_rows ≤ b.trades) ⊎ (length s.trades ≤ b.trades)) [ inl h ↦ inl h | inr h ↦ inr (omega (arith, h, length-map c.args.trades.now plain_trade)) ] in
     (inr (sound, inr (nothing_refused Trade _ entered.0, inr (parties, inr (two, inl (refl, many))))), refl)
 
 pub returns : goal.returns
 returns c =
     let b = open_book c.args.self.now in
     let s = state_of b c.args.qses.now c.args.loads.now c.args.resources.now c.args.trades.now in
-    let entered = c.in-ok-row.ensures.entered in
+    let entered = c.in_ok-row.ensures.entered in
     let seller = ap (λ l. counted (at l 3)) entered.1 in
     let buyer = ap (λ l. counted (at l 4)) entered.1 in
-    let sound = table_sound b c.args.qses.now c.args.loads.now c.args.resources.now c.args.trades.now _ c.is-broken.ensures c.if-is-broken.false in
-    let known = both_among b c.args.qses.now c.args.loads.now c.args.resources.now c.args.trades.now _ _ _ c.are-enrolled.ensures c.if-not-are-enrolled.false in
-    let parties = subst (λ n. Absent (unpartied s n (counted (at c.args.list.now 4)))) seller (subst (λ n. Absent (unpartied s c.in-ok-row.row.seller n)) buyer known) in
+    let sound = table_sound b c.args.qses.now c.args.loads.now c.args.resources.now c.args.trades.now _ c.is_broken.ensures c.if-is_broken.false in
+    let known = both_among b c.args.qses.now c.args.loads.now c.args.resources.now c.args.trades.now _ _ _ c.are_enrolled.ensures c.if-not-are_enrolled.false in
+    let parties = subst (λ n. Absent (unpartied s n (counted (at c.args.list.now 4)))) seller (subst (λ n. Absent (unpartied s c.in_ok-row.row.seller n)) buyer known) in
     let two = two_parties (counted (at c.args.list.now 3)) (counted (at c.args.list.now 4)) (λ e. c.if-row.false (buyer ∙ e ∙ sym seller)) in
-    let row = c.in-ok-row.row in (
+    let row = c.in_ok-row.row in (
       (sound, (nothing_refused Trade _ entered.0, (parties, (two, (has_place b.trades max_rows (length s.trades) (omega arith) (omega (arith, length-map c.args.trades.now plain_trade)), tt))))),
-      (refl, (plain_trade row, entered.1, c.in-ok-row.ensures.counting, ap (λ l. with_trades (with_book s (with_counts b b.qses b.loads b.resources (b.trades + 1))) l) (map-set plain_trade c.args.trades.now b.trades row))),
+      (refl, (plain_trade row, entered.1, c.in_ok-row.ensures.counting, ap (λ l. with_trades (with_book s (with_counts b b.qses b.loads b.resources (b.trades + 1))) l) (map-set plain_trade c.args.trades.now b.trades row))),
     )

@@ -5,39 +5,39 @@ use Rattle.book.specs.State.{struck_book, state_of}
 use Rattle.book.proofs.Judging.{table_broken, table_sound, is_outside, not_outside}
 use Rattle.book.proofs.books.StruckBook.claim.Goals as goal
 
-pub returns-then-is-broken : goal.returns-then-is-broken
-returns-then-is-broken c = (inl (table_broken (struck_book c.args.self.now) c.args.qses.now c.args.loads.now c.args.resources.now c.args.trades.now _ c.is-broken.ensures c.if-is-broken.true), refl)
+pub returns-then-is_broken : goal.returns-then-is_broken
+returns-then-is_broken c = (inl (table_broken (struck_book c.args.self.now) c.args.qses.now c.args.loads.now c.args.resources.now c.args.trades.now _ c.is_broken.ensures c.if-is_broken.true), refl)
 
-pub returns-then-not-is-within : goal.returns-then-not-is-within
-returns-then-not-is-within c =
-    let sound = table_sound (struck_book c.args.self.now) c.args.qses.now c.args.loads.now c.args.resources.now c.args.trades.now _ c.is-broken.ensures c.if-is-broken.false in
+pub returns-then-not-is_within : goal.returns-then-not-is_within
+returns-then-not-is_within c =
+    let sound = table_sound (struck_book c.args.self.now) c.args.qses.now c.args.loads.now c.args.resources.now c.args.trades.now _ c.is_broken.ensures c.if-is_broken.false in
     let fc : SFits w64 c.args.cents = search rules in
-    (inr (sound, inl (is_outside 1 c.args.cents (pos 1) (pos 1000000000) _ (simp to_z-of_z at c.is-within.ensures) c.if-not-is-within.true)), refl)
+    (inr (sound, inl (is_outside 1 c.args.cents (pos 1) (pos 1000000000) _ (simp to_z-of_z at c.is_within.ensures) c.if-not-is_within.true)), refl)
 
-pub returns-then-not-is-within-2 : goal.returns-then-not-is-within-2
-returns-then-not-is-within-2 c =
-    let sound = table_sound (struck_book c.args.self.now) c.args.qses.now c.args.loads.now c.args.resources.now c.args.trades.now _ c.is-broken.ensures c.if-is-broken.false in
+pub returns-then-not-is_within-2 : goal.returns-then-not-is_within-2
+returns-then-not-is_within-2 c =
+    let sound = table_sound (struck_book c.args.self.now) c.args.qses.now c.args.loads.now c.args.resources.now c.args.trades.now _ c.is_broken.ensures c.if-is_broken.false in
     let fc : SFits w64 c.args.cents = search rules in
     let fr : SFits w64 c.args.rate = search rules in
-    let first = not_outside 1 c.args.cents (pos 1) (pos 1000000000) _ (simp to_z-of_z at c.is-within.ensures) c.if-not-is-within.false in
-    (inr (sound, inr (first, inl (is_outside 2 c.args.rate (pos 0) (pos 1000000) _ (simp to_z-of_z at c.is-within-2.ensures) c.if-not-is-within-2.true))), refl)
+    let first = not_outside 1 c.args.cents (pos 1) (pos 1000000000) _ (simp to_z-of_z at c.is_within.ensures) c.if-not-is_within.false in
+    (inr (sound, inr (first, inl (is_outside 2 c.args.rate (pos 0) (pos 1000000) _ (simp to_z-of_z at c.is_within-2.ensures) c.if-not-is_within-2.true))), refl)
 
 pub returns-then-self-ge1000 : goal.returns-then-self-ge1000
 returns-then-self-ge1000 c =
-    let sound = table_sound (struck_book c.args.self.now) c.args.qses.now c.args.loads.now c.args.resources.now c.args.trades.now _ c.is-broken.ensures c.if-is-broken.false in
+    let sound = table_sound (struck_book c.args.self.now) c.args.qses.now c.args.loads.now c.args.resources.now c.args.trades.now _ c.is_broken.ensures c.if-is_broken.false in
     let fc : SFits w64 c.args.cents = search rules in
     let fr : SFits w64 c.args.rate = search rules in
-    let first = not_outside 1 c.args.cents (pos 1) (pos 1000000000) _ (simp to_z-of_z at c.is-within.ensures) c.if-not-is-within.false in
-    let second = not_outside 2 c.args.rate (pos 0) (pos 1000000) _ (simp to_z-of_z at c.is-within-2.ensures) c.if-not-is-within-2.false in
+    let first = not_outside 1 c.args.cents (pos 1) (pos 1000000000) _ (simp to_z-of_z at c.is_within.ensures) c.if-not-is_within.false in
+    let second = not_outside 2 c.args.rate (pos 0) (pos 1000000) _ (simp to_z-of_z at c.is_within-2.ensures) c.if-not-is_within-2.false in
     (inr (sound, inr (first, inr (second, inl (refl, c.if-self-ge1000.true)))), refl)
 
 pub returns : goal.returns
 returns c =
-    let sound = table_sound (struck_book c.args.self.now) c.args.qses.now c.args.loads.now c.args.resources.now c.args.trades.now _ c.is-broken.ensures c.if-is-broken.false in
+    let sound = table_sound (struck_book c.args.self.now) c.args.qses.now c.args.loads.now c.args.resources.now c.args.trades.now _ c.is_broken.ensures c.if-is_broken.false in
     let fc : SFits w64 c.args.cents = search rules in
     let fr : SFits w64 c.args.rate = search rules in
-    let first = not_outside 1 c.args.cents (pos 1) (pos 1000000000) _ (simp to_z-of_z at c.is-within.ensures) c.if-not-is-within.false in
-    let second = not_outside 2 c.args.rate (pos 0) (pos 1000000) _ (simp to_z-of_z at c.is-within-2.ensures) c.if-not-is-within-2.false in
-    let wc = (simp to_z-of_z at c.is-within.ensures).0 c.if-not-is-within.false in
-    let wr = (simp to_z-of_z at c.is-within-2.ensures).0 c.if-not-is-within-2.false in
+    let first = not_outside 1 c.args.cents (pos 1) (pos 1000000000) _ (simp to_z-of_z at c.is_within.ensures) c.if-not-is_within.false in
+    let second = not_outside 2 c.args.rate (pos 0) (pos 1000000) _ (simp to_z-of_z at c.is_within-2.ensures) c.if-not-is_within-2.false in
+    let wc = (simp to_z-of_z at c.is_within.ensures).0 c.if-not-is_within.false in
+    let wr = (simp to_z-of_z at c.is_within-2.ensures).0 c.if-not-is_within-2.false in
     ((sound, (first, (second, ((λ e f. omega (arith, f.1)), tt)))), record { book = refl; cents = cast_back c.args.cents (omega arith) wc; rate = cast_back c.args.rate (omega arith) wr; fresh = refl }, refl)

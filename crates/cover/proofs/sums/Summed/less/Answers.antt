@@ -25,8 +25,8 @@ loop-k-preserved c =
           (ap length v.sums-is ∙ c.loop-k.invariant.0, written_keep f k old xs w c.if-member.sums v.sums-is here)
     ]
 
-pub overflow-sub-sums : goal.overflow-sub-sums
-overflow-sub-sums c =
+pub overflow_sub-sums : goal.overflow_sub-sums
+overflow_sub-sums c =
     let self = c.args.self.now in
     let k = c.loop-k.k in
     let j = c.args.j in
@@ -34,8 +34,8 @@ overflow-sub-sums c =
     let part : cond (mem k j) d 0 ≡ d = ap (λ b. cond b d 0) (sym c.member.ensures ∙ c.if-member.true) in
     omega (arith, part, sum_less k self.figures j d self.long.0 c.requires.place c.requires.there, self.each k c.loop-k-test.true, c.loop-k.invariant.1.ahead k (omega arith))
 
-pub invariant-of-result : goal.invariant-of-result
-invariant-of-result c =
+pub invariant_of-result : goal.invariant_of-result
+invariant_of-result c =
     let self = c.args.self.now in
     let xs = self.figures in
     let j = c.args.j in

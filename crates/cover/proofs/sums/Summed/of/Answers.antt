@@ -11,8 +11,8 @@ pub extend-requires : goal.extend-requires
 extend-requires c =
     let j = c.loop-j.j in
     let o = starts_order j c.loop-j-test.true in
-    let from = c.start-of.ensures in
-    let to = c.start-of-in-loop-j.ensures in
+    let from = c.start_of.ensures in
+    let to = c.start_of-in-loop-j.ensures in
     record {
       sets = c.loop-j.invariant.0;
       order = (omega (arith, o.0, from, to), (omega (arith, o.1, from, to), omega (arith, o.2, to)));
@@ -23,11 +23,11 @@ extend-requires c =
 pub loop-j-preserved : goal.loop-j-preserved
 loop-j-preserved c = (
   omega (arith, c.loop-j.invariant.0),
-  sums_more c.loop-j.j c.args.figures _ _ _ _ c.loop-j-test.true c.start-of.ensures c.start-of-in-loop-j.ensures c.loop-j.invariant.1 c.extend.ensures.kept c.extend.ensures.more,
+  sums_more c.loop-j.j c.args.figures _ _ _ _ c.loop-j-test.true c.start_of.ensures c.start_of-in-loop-j.ensures c.loop-j.invariant.1 c.extend.ensures.kept c.extend.ensures.more,
 )
 
-pub invariant-of-result : goal.invariant-of-result
-invariant-of-result c =
+pub invariant_of-result : goal.invariant_of-result
+invariant_of-result c =
     let end : c.loop-j.j ≡ 9 = omega (arith, c.loop-j-test.false, c.loop-j.auto.j-end) in (
       (search rules, c.loop-j.invariant.0),
       (c.requires, ((λ k h. c.loop-j.invariant.1 k (omega (arith, ap start_at end, starts_end))), tt)),

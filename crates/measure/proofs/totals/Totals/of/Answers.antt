@@ -6,20 +6,20 @@ use Rattle.account.proofs.Rows.{sum_turn, sum_all}
 use Rattle.measure.proofs.LineTotals.{levels_same, under_more, lines_sum}
 use Rattle.measure.proofs.totals.Totals.of.Goals as goal
 
-pub with-row-totals-requires : goal.with-row-totals-requires
-with-row-totals-requires c = under_more (30000000 * c.loop-row.row-index) 20000000000 (omega (arith, c.loop-row-test.true, c.args.a.now.few.1)) c.loop-row.invariant.3
+pub with_row-totals-requires : goal.with_row-totals-requires
+with_row-totals-requires c = under_more (30000000 * c.loop-row.row-index) 20000000000 (omega (arith, c.loop-row-test.true, c.args.a.now.few.1)) c.loop-row.invariant.3
 
 pub loop-row-preserved : goal.loop-row-preserved
 loop-row-preserved c =
     let a = c.args.a.now in
-    let adds = c.with-row-totals.ensures.value in
+    let adds = c.with_row-totals.ensures.value in
     let d = c.row-item.result in
     let lt = c.loop-row-test.true in
     let inv = c.loop-row.invariant in (
       adds.supply ∙ sum_turn (own_part supply a) a.resources.now _ d lt c.row-item.is inv.0 refl,
       adds.offline ∙ sum_turn (own_part (λ x. x.offline) a) a.resources.now _ d lt c.row-item.is inv.1 refl,
       levels_same _ _ (λ ks all. sum_turn (own_part (served ks) a) a.resources.now _ d lt c.row-item.is refl refl) (adds.served _ inv.2),
-      under_more (30000000 * c.loop-row.row-index + 30000000) (30000000 * (c.loop-row.row-index + 1)) (omega arith) (c.with-row-totals.ensures.small _ inv.3),
+      under_more (30000000 * c.loop-row.row-index + 30000000) (30000000 * (c.loop-row.row-index + 1)) (omega arith) (c.with_row-totals.ensures.small _ inv.3),
     )
 
 pub returns : goal.returns

@@ -9,7 +9,7 @@ returns c =
       value = record {
         supply = omega (arith, c.from.ensures, c.from-2.ensures);
         offline = omega (arith, c.from-3.ensures);
-        served = λ f is. c.plus.ensures.value f _ is c.served-by.ensures.value;
+        served = λ f is. c.plus.ensures.value f _ is c.served_by.ensures.value;
       };
       small = λ m under. record {
         supply = omega (arith, under.supply, c.from.ensures, c.from-2.ensures, small);
