@@ -1,7 +1,7 @@
 -- What a strike answers, from what was written into the counted rows.
 use Rattle.std.proofs.Common.{◌≡◌, ℕ, ◌-◌, List, [], ◌∷◌, ◌++◌, map, take, drop, Ok, Err, Result, sym, ap, ◌∙◌, subst, inl, inr, arith}
 use native.Mathlib.Nat.{sub-zero}
-use Rattle.std.proofs.lemmas.List.{drop-map, map_append, take-append-drop}
+use Rattle.std.proofs.lemmas.List.{drop-map, map-append, take-append-drop}
 use Rattle.rows.specs.Rows.{PlainQse, plain_qse}
 use Rattle.rows.specs.declared.fault.Fault.{Fault}
 use Rattle.rows.specs.declared.load.LoadRow.{LoadRow}
@@ -20,7 +20,7 @@ use Rattle.book.proofs.Owning.{from_start}
 -- the first n rows replaced by others, which are `front` when plain
 rows_after : (n : ℕ) (qs rows : List QseRow) (front : List PlainQse) → map plain_qse rows ≡ front → map plain_qse (rows ++ drop (n - 0) qs) ≡ front ++ drop n (map plain_qse qs)
 rows_after n qs rows front e =
-    map_append plain_qse rows (drop (n - 0) qs) ∙ ap (λ l. l ++ map plain_qse (drop (n - 0) qs)) e
+    map-append plain_qse rows (drop (n - 0) qs) ∙ ap (λ l. l ++ map plain_qse (drop (n - 0) qs)) e
     ∙ ap (λ k. front ++ map plain_qse (drop k qs)) (sub-zero n)
     ∙ ap (λ l. front ++ l) (sym (drop-map plain_qse n qs))
 

@@ -24,7 +24,7 @@ impl OpenBook {
         trades: &'a [TradeRow],
         qse: i64,
     ) -> Result<u64, Fault>
-        ensures { Shorts (meaning m.now) qse (state_of (open_book self.now) qses.now loads.now resources.now trades.now) result }
+        ensures { Shorts (M.meaning m.now) qse (state_of (open_book self.now) qses.now loads.now resources.now trades.now) result }
     {
         if is_broken(
             self.counts,

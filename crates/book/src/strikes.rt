@@ -25,7 +25,7 @@ impl OpenBook {
         resources: &'a [ResourceRow],
         trades: &'a [TradeRow],
     ) -> Result<(StruckBook, u32), (OpenBook, Fault)>
-        ensures { Strikes (meaning m.now) self (state_of (open_book self) qses.old loads.now resources.now trades.now) (map plain_qse qses.new) result }
+        ensures { Strikes (M.meaning m.now) self (state_of (open_book self) qses.old loads.now resources.now trades.now) (map plain_qse qses.new) result }
     {
         if is_broken(
             self.counts,

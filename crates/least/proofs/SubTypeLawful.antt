@@ -2,7 +2,7 @@
 use Rattle.std.proofs.Common.{◌≡◌, ℕ, zero, suc, ◌+◌, ◌^◌, ◌≤◌, Bool, List, [], ◌∷◌, map, get_or, set, sym, refl, ap, ◌∙◌, subst, arith}
 use Rattle.std.specs.List.Sorted.{IsPermutation, apply_swaps, SwapsInRange as Places}
 use Rattle.std.specs.List.{swap}
-use Rattle.std.proofs.lemmas.List.{map_append, length-map, map-set}
+use Rattle.std.proofs.lemmas.List.{map-append, length-map, map-set}
 use Rattle.account.specs.View.{View, Line, add}
 use Rattle.measure.specs.Laws.{Bound, Helped, More}
 use Rattle.measure.specs.Lawful.{Lawful, lawful_max, lawful_asked}
@@ -70,7 +70,7 @@ unfolding reserve
 lawful_reserve = record {
   order = λ v ls s. laws.order (sources v.lines) (sources ls) (demand v) (shuffled_map source v.lines ls s);
   pool = λ v w. subst (λ (xs : List Source). short xs (demand (add v w)) ≤ short (sources v.lines) (demand v) + short (sources w.lines) (demand w))
-      (sym (map_append source v.lines w.lines))
+      (sym (map-append source v.lines w.lines))
       (laws.pool (sources v.lines) (sources w.lines) (demand v) (demand w) (demand (add v w)) (demand_pool v w));
   help = λ v w h. laws.help (sources v.lines) (sources w.lines) (demand v) (demand w) (better_sources v.lines w.lines h.lines) (demand_help v w h);
   nothing = laws.nothing;

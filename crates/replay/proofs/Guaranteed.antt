@@ -3,7 +3,7 @@ use Rattle.std.proofs.Common.{◌≡◌, ℕ, zero, suc, ◌+◌, ◌-◌, ◌*�
 use Rattle.std.specs.List.{AllByRecursion as All}
 use Rattle.std.proofs.lemmas.List.Elements.{filter-append}
 use Rattle.std.proofs.ByRecursion.{All-get_or}
-use Rattle.std.proofs.lemmas.List.{get_or-map, take_more_set, append_nil}
+use Rattle.std.proofs.lemmas.List.{get_or-map, take_more_set, append-nil}
 use Rattle.std.proofs.lemmas.List.Sums.{get_or-le-sum_by}
 use Rattle.std.proofs.lemmas.Bool.{cases_lt, cases_Bool, cond-true, cond-false, false≢true}
 use Rattle.rows.specs.Rows.{PlainQse, PlainResource}
@@ -88,7 +88,7 @@ supplied_own s r room q =
     let with' : List PlainResource → Own = λ l. let o = own_rows q s in record { number = o.number; figures = o.figures; loads = o.loads; resources = l; trades = o.trades } in
     elim (cases_Bool (owns_resource q r)) [
       | inl yes' ↦ inl (ap with' (kept ∙ ap (λ l. filter (owns_resource q) (tables_of s).resources ++ l) (cond-true (owns_resource q r) (r ∷ []) [] yes')))
-      | inr not' ↦ inr (ap with' (kept ∙ ap (λ l. filter (owns_resource q) (tables_of s).resources ++ l) (cond-false (owns_resource q r) (r ∷ []) [] not') ∙ append_nil (filter (owns_resource q) (tables_of s).resources)))
+      | inr not' ↦ inr (ap with' (kept ∙ ap (λ l. filter (owns_resource q) (tables_of s).resources ++ l) (cond-false (owns_resource q r) (r ∷ []) [] not') ∙ append-nil (filter (owns_resource q) (tables_of s).resources)))
     ]
 
 supply_helps : (m : View → ℕ) → Help m → (s s' : State) (xs : List ℤ) → Supplied xs s s' → (q : ℕ) → shortfall_of m (own_rows q s') ≤ shortfall_of m (own_rows q s)

@@ -21,7 +21,7 @@ fn strike_open<M: Measure>(
     resources: &[ResourceRow],
     trades: &[TradeRow],
 ) -> (AnyBook, Answer)
-    ensures { (cs : List (List ℕ)) (p : List (Maybe Slip)) → StrikesBook (meaning m.now) (desk_of (open_book book) qses.old loads.now resources.now trades.now cs p) (desk_of (any_book result.0) qses.new loads.now resources.now trades.now cs p) result.1 }
+    ensures { (cs : List (List ℕ)) (p : List (Maybe Slip)) → StrikesBook (M.meaning m.now) (desk_of (open_book book) qses.old loads.now resources.now trades.now cs p) (desk_of (any_book result.0) qses.new loads.now resources.now trades.now cs p) result.1 }
 {
     match book.strike(m, qses, loads, resources, trades) {
         Ok(done) => {
@@ -46,7 +46,7 @@ pub(crate) fn on_open<M: Measure>(
     trades: &mut [TradeRow],
     covers: &mut [[u32; 14]],
 ) -> (AnyBook, Answer)
-    ensures { (p : List (Maybe Slip)) → OnOpen (map meaning measures.now) call.entry (desk_of (open_book book) qses.old loads.old resources.old trades.old covers.old p) (desk_of (any_book result.0) qses.new loads.new resources.new trades.new covers.new p) result.1 }
+    ensures { (p : List (Maybe Slip)) → OnOpen (map M.meaning measures.now) call.entry (desk_of (open_book book) qses.old loads.old resources.old trades.old covers.old p) (desk_of (any_book result.0) qses.new loads.new resources.new trades.new covers.new p) result.1 }
 {
     let answer = match call {
         Call::Figures(list) => granted(book.figures(qses, loads, resources, trades, list)),

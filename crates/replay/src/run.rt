@@ -26,7 +26,7 @@ fn apply<M: Measure>(
     covers: &mut [[u32; 14]],
     purse: &mut [Option<Claim>],
 ) -> (AnyBook, Answer)
-    ensures { Step (map meaning measures.now) call.entry (desk_of (any_book book) qses.old loads.old resources.old trades.old covers.old purse.old) (desk_of (any_book result.0) qses.new loads.new resources.new trades.new covers.new purse.new) result.1 }
+    ensures { Step (map M.meaning measures.now) call.entry (desk_of (any_book book) qses.old loads.old resources.old trades.old covers.old purse.old) (desk_of (any_book result.0) qses.new loads.new resources.new trades.new covers.new purse.new) result.1 }
 {
     match book {
         AnyBook::Open(open) => on_open(
@@ -50,8 +50,8 @@ pub fn replay<'a, M: Measure>(
     journal: &mut [Entry<'a>],
 ) -> AnyBook
     ensures calls { map (λ e. e.call) journal.new ≡ map (λ e. e.call) journal.old }
-    ensures run { Run (map meaning measures.now) (desk_of (open_book book) qses.old loads.old resources.old trades.old covers.old purse.old) journal.new (desk_of (any_book result) qses.new loads.new resources.new trades.new covers.new purse.new) }
-    ensures guarantee { Guarantee (map meaning measures.now) }
+    ensures run { Run (map M.meaning measures.now) (desk_of (open_book book) qses.old loads.old resources.old trades.old covers.old purse.old) journal.new (desk_of (any_book result) qses.new loads.new resources.new trades.new covers.new purse.new) }
+    ensures guarantee { Guarantee (map M.meaning measures.now) }
 {
     let mut current = AnyBook::Open(book);
     for i in 0..journal.len() {

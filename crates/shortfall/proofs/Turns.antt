@@ -1,5 +1,5 @@
 -- A loop that writes each row once, seen through a plain view of the rows.
-use Rattle.std.proofs.Common.{◌≡◌, ℕ, zero, suc, ◌+◌, ◌<◌, ◌≤◌, List, [], ◌∷◌, ◌++◌, map, length, get_or, take, drop, set, sym, refl, ap, ◌∙◌, append_nil, arith, take_all}
+use Rattle.std.proofs.Common.{◌≡◌, ℕ, zero, suc, ◌+◌, ◌<◌, ◌≤◌, List, [], ◌∷◌, ◌++◌, map, length, get_or, take, drop, set, sym, refl, ap, ◌∙◌, append-nil, arith, take_all}
 use Rattle.std.proofs.lemmas.List.{drop_all, get_or-map, length-map, map-set}
 use Rattle.std.proofs.lemmas.List.Edits.{map_over_more}
 
@@ -32,4 +32,4 @@ pub write_all : {X Y : Type 0} (see : X → Y) (f : Y → Y) (xs ys : List X) (i
 write_all see f xs ys i le is =
     let P = map see xs in
     let long : length P ≤ i = omega (arith, length-map xs see) in
-    is ∙ ap (λ l. map f (take i P) ++ l) (drop_all i P long) ∙ append_nil (map f (take i P)) ∙ ap (map f) (take_all i P long)
+    is ∙ ap (λ l. map f (take i P) ++ l) (drop_all i P long) ∙ append-nil (map f (take i P)) ∙ ap (map f) (take_all i P long)

@@ -24,8 +24,8 @@ fn keep(first: &mut [u64], i: usize, s: u64)
 
 // The sum of all shortfalls, and the first of them.
 pub(crate) fn measured_of<'a, M: Measure>(m: &M, rows: &'a [QseRow], tables: Tables<'a>) -> Measured
-    ensures sum { result.sum ≡ total_of (meaning m.now) (owns (plain_tables tables.entry) (map plain_qse rows.now)) }
-    ensures first { First (meaning m.now) (plain_tables tables.entry) rows.now result.first }
+    ensures sum { result.sum ≡ total_of (M.meaning m.now) (owns (plain_tables tables.entry) (map plain_qse rows.now)) }
+    ensures first { First (M.meaning m.now) (plain_tables tables.entry) rows.now result.first }
 {
     let mut sum = 0u128;
     let mut first = [0u64; 64];
@@ -45,8 +45,8 @@ pub(crate) fn short_at<'a, M: Measure>(
     first: &[u64; 64],
     i: usize,
 ) -> u64
-    requires { i < 64 → slice_index first.now i ≡ row_short (meaning m.now) (plain_tables tables) (plain_qse row.now) }
-    ensures { result ≡ row_short (meaning m.now) (plain_tables tables.entry) (plain_qse row.now) }
+    requires { i < 64 → slice_index first.now i ≡ row_short (M.meaning m.now) (plain_tables tables) (plain_qse row.now) }
+    ensures { result ≡ row_short (M.meaning m.now) (plain_tables tables.entry) (plain_qse row.now) }
 {
     if i < KEPT {
         first[i]

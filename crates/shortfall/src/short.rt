@@ -12,7 +12,7 @@ use rows::qse::QseRow;
 
 // The greater of the two sides' values, less the credit.
 fn beyond_credit<M: Measure>(m: &M, snapshot: &Account, adjusted: &Account, credit: u32) -> u64
-    ensures { result ≡ max (meaning m.now (account_view snapshot.now)) (meaning m.now (account_view adjusted.now)) - credit }
+    ensures { result ≡ max (M.meaning m.now (account_view snapshot.now)) (M.meaning m.now (account_view adjusted.now)) - credit }
 {
     m.value(snapshot)
         .max(m.value(adjusted))
@@ -21,9 +21,9 @@ fn beyond_credit<M: Measure>(m: &M, snapshot: &Account, adjusted: &Account, cred
 
 // By the rows of the QSE alone; one more resource of its own would never raise it.
 pub fn short_of<'a, M: Measure>(m: &M, row: &'a QseRow, tables: Tables<'a>) -> u64
-    ensures value { result ≡ shortfall_of (meaning m.now) (qse_own (plain_qse row.now) (plain_tables tables.entry)) }
+    ensures value { result ≡ shortfall_of (M.meaning m.now) (qse_own (plain_qse row.now) (plain_tables tables.entry)) }
     ensures small { result ≤ 1000000000000 }
-    ensures helped { NeverRaised (meaning m.now) (qse_own (plain_qse row.now) (plain_tables tables.entry)) result }
+    ensures helped { NeverRaised (M.meaning m.now) (qse_own (plain_qse row.now) (plain_tables tables.entry)) result }
 {
     let snapshot = Account::new(row, Side::Snapshot, tables);
     let adjusted = Account::new(row, Side::Adjusted, tables);

@@ -17,7 +17,7 @@ pub fn write_shortfalls<M: Measure>(
     rows: &mut [QseRow],
     tables: Tables,
 ) -> Result<u64, Fault>
-    ensures { Struck (meaning m.now) (plain_tables tables.entry) (map plain_qse rows.old) (map plain_qse rows.new) result }
+    ensures { Struck (M.meaning m.now) (plain_tables tables.entry) (map plain_qse rows.old) (map plain_qse rows.new) result }
 {
     let measured = measured_of(m, rows, tables);
     let t = measured.sum;

@@ -11,9 +11,9 @@ use rows::qse::QseRow;
 
 // Each row with its own figures; the sum is at least the shortfall of the pool.
 pub fn total_short<'a, M: Measure>(m: &M, rows: &'a [QseRow], tables: Tables<'a>) -> u128
-    ensures sum { result ≡ total_of (meaning m.now) (owns (plain_tables tables.entry) (map plain_qse rows.now)) }
-    ensures pool { CoversPool (meaning m.now) (plain_tables tables.entry) (map plain_qse rows.now) result }
-    ensures bounded { PoolBounded (meaning m.now) (plain_tables tables.entry) (map plain_qse rows.now) }
+    ensures sum { result ≡ total_of (M.meaning m.now) (owns (plain_tables tables.entry) (map plain_qse rows.now)) }
+    ensures pool { CoversPool (M.meaning m.now) (plain_tables tables.entry) (map plain_qse rows.now) result }
+    ensures bounded { PoolBounded (M.meaning m.now) (plain_tables tables.entry) (map plain_qse rows.now) }
 {
     let mut sum = 0u128;
     for row in rows {

@@ -14,7 +14,7 @@ use Rattle.shortfall.proofs.strike.write_shortfalls.Goals as goal
 
 -- what was kept of a row that is written now
 pub short_at-s-requires : goal.short_at-s-requires
-short_at-s-requires g c κs few =
+short_at-s-requires g c few =
     let m = g.M.Measure.meaning c.args.m.now in
     let t = plain_tables c.args.tables in
     let R = c.args.rows.now in
