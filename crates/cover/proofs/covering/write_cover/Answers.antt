@@ -4,7 +4,7 @@ use Rattle.account.specs.View.{counted}
 use Rattle.least.specs.SubType.{demand}
 use Rattle.cover.proofs.CoverSteps.{filing_none, filing_same, filing_skip, filing_next, filing_room, filing_enough, filing_end}
 use Rattle.cover.proofs.covering.write_cover.Goals as goal
-use Rattle.cover.proofs.covering.write_cover.Goals.{in-Some, in-default}
+use Rattle.cover.proofs.covering.write_cover.Goals.{in-Some, in_default}
 
 pub slice_bounds-serve_line-end : goal.slice_bounds-serve_line-end
 slice_bounds-serve_line-end c = sym c.loop-row.invariant.covers.long
@@ -35,7 +35,7 @@ loop-row-preserved c =
       | in-Some w ↦ filing_same _ _ _ _ _ _ _ _ _ _ _ _ w.n-is w.rest-is (ap (λ s. s.figures) w.left-is) w.out-is
           (filing_next i n _ _ _ _ _ _ c.loop-row.invariant d c.loop-row-test.true c.row-item.is w.in-Some.ensures.0 _ w.in-Some.ensures.1
           _ _ _ (omega (arith, c.loop-row.invariant.covers.long)) w.serve_line.ensures.taken w.serve_line.ensures.served)
-      | in-default w ↦ filing_same _ _ _ _ _ _ _ _ _ _ _ _ w.n-is w.rest-is (ap (λ s. s.figures) w.left-is) w.out-is
+      | in_default w ↦ filing_same _ _ _ _ _ _ _ _ _ _ _ _ w.n-is w.rest-is (ap (λ s. s.figures) w.left-is) w.out-is
           (filing_skip i n _ _ _ _ _ _ c.loop-row.invariant d c.loop-row-test.true c.row-item.is w.in_default.ensures)
     ]
 

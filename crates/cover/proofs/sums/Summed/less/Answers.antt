@@ -40,13 +40,9 @@ invariant_of-result c =
     let xs = self.figures in
     let j = c.args.j in
     let d = c.args.d in
-    let lt : j < length xs = omega (arith, self.long.0, c.requires.place) in (
-      (length-set xs j (get_or xs j 0 - d) ∙ self.long.0, c.loop-k.invariant.0),
-      (
-        set_every xs j (get_or xs j 0 - d) 0 lt (λ x. x ≤ 5130000000) self.low (omega (arith, self.low j)),
-        (
-          (λ k h. omega (arith, sum_less k xs j d self.long.0 c.requires.place c.requires.there, self.each k h, c.loop-k.invariant.1.past k (omega (arith, c.loop-k-test.false)))),
-          tt,
-        ),
-      ),
-    )
+    let lt : j < length xs = omega (arith, self.long.0, c.requires.place) in
+    record {
+      long = (length-set xs j (get_or xs j 0 - d) ∙ self.long.0, c.loop-k.invariant.0);
+      low = set_every xs j (get_or xs j 0 - d) 0 lt (λ x. x ≤ 5130000000) self.low (omega (arith, self.low j));
+      each = λ k h. omega (arith, sum_less k xs j d self.long.0 c.requires.place c.requires.there, self.each k h, c.loop-k.invariant.1.past k (omega (arith, c.loop-k-test.false)));
+    }

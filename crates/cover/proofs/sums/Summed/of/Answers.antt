@@ -28,7 +28,9 @@ loop-j-preserved c = (
 
 pub invariant_of-result : goal.invariant_of-result
 invariant_of-result c =
-    let end : c.loop-j.j ≡ 9 = omega (arith, c.loop-j-test.false, c.loop-j.auto.j-end) in (
-      (search rules, c.loop-j.invariant.0),
-      (c.requires, ((λ k h. c.loop-j.invariant.1 k (omega (arith, ap start_at end, starts_end))), tt)),
-    )
+    let end : c.loop-j.j ≡ 9 = omega (arith, c.loop-j-test.false, c.loop-j.auto.j-end) in
+    record {
+      long = (search rules, c.loop-j.invariant.0);
+      low = c.requires;
+      each = λ k h. c.loop-j.invariant.1 k (omega (arith, ap start_at end, starts_end));
+    }
