@@ -35,7 +35,7 @@ fn pot_of(claim: &Claim, total: u32) -> u32
 
 // Whether each row can take any claim.
 fn all_low<T: Weighed>(rows: &[T]) -> bool
-    ensures { Decides result (All (λ x. holds x ≤ 999000000000) rows.now) }
+    ensures { Decides result (All (λ x. T.holds x ≤ 999000000000) rows.now) }
 {
     for row in rows {
         if row.cents() > LOW_CENTS {
@@ -65,9 +65,9 @@ fn lacks_load(rest: u32, loads: &[LoadRow]) -> bool
 // Puts the whole pot on the first `count` rows. The division refuses nothing: each row has room.
 fn pay<T: Weighed>(rows: &mut [T], count: usize, pot: u32)
     requires within { count ≤ length rows.old }
-    requires room { HasRoom holds pot (take count rows.old) }
-    requires some { sum_by weighs (take count rows.old) ≡ 0 → pot ≡ 0 }
-    ensures divided { Divided weighs holds paid pot (take count rows.old) (take count rows.new) pot }
+    requires room { HasRoom T.holds pot (take count rows.old) }
+    requires some { sum_by T.weighs (take count rows.old) ≡ 0 → pot ≡ 0 }
+    ensures divided { Divided T.weighs T.holds T.paid pot (take count rows.old) (take count rows.new) pot }
     ensures later { drop count rows.new ≡ drop count rows.old }
 {
     let _given = divide(&mut rows[0..count], pot);

@@ -8,4 +8,4 @@ all_zero (suc n) zero = refl
 all_zero (suc n) (suc k) = all_zero n k
 
 pub invariant_of-side : goal.invariant_of-side
-invariant_of-side c = ((omega arith, λ k. omega (arith, all_zero 9 k)), (omega (arith, ints), omega (arith, ints)))
+invariant_of-side c = record { powers = (omega arith, λ k. omega (arith, all_zero 9 k)); stored = (omega (arith, ints), omega (arith, ints)) }

@@ -16,13 +16,13 @@ returns-then-is_broken c = (inl (table_broken (open_book c.args.self.now) c.args
 
 pub returns-in_err-number : goal.returns-in_err-number
 returns-in_err-number c =
-    let p = err_from_is_err_and c.from-residual.result c.from-residual.ensures.1 in
+    let p = err_from_is_err_and c.from_residual.result c.from_residual.ensures.1 in
     let sound = table_sound (open_book c.args.self.now) c.args.qses.now c.args.loads.now c.args.resources.now c.args.trades.now _ c.is_broken.ensures c.if-is_broken.false in
     rw (p.1, p.2) (inr (sound, inl (number_refused c.args.qse c.ranges.qse c.in_err-number.field-0.0 c.in_err-number.ensures)), refl)
 
 pub returns-in_err-on : goal.returns-in_err-on
 returns-in_err-on c =
-    let p = err_from_is_err_and c.from-residual-in_err-on.result c.from-residual-in_err-on.ensures.1 in
+    let p = err_from_is_err_and c.from_residual-in_err-on.result c.from_residual-in_err-on.ensures.1 in
     let sound = table_sound (open_book c.args.self.now) c.args.qses.now c.args.loads.now c.args.resources.now c.args.trades.now _ c.is_broken.ensures c.if-is_broken.false in
     let number = number_read c.args.qse c.ranges.qse c.in_ok-number.number c.in_ok-number.ensures in
     rw (p.1, p.2) (inr (sound, inr (number.0, inl (side_refused c.args.side c.ranges.side c.in_err-on.field-0.0 c.in_err-on.ensures))), refl)

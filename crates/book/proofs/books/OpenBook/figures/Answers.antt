@@ -19,7 +19,7 @@ returns-then-is_broken c = (inl (table_broken (open_book c.args.self.now) c.args
 
 pub returns-in_err-number : goal.returns-in_err-number
 returns-in_err-number c =
-    let p = err_from_is_err_and c.from-residual.result c.from-residual.ensures.1 in
+    let p = err_from_is_err_and c.from_residual.result c.from_residual.ensures.1 in
     let b = open_book c.args.self.now in
     let s = state_of b c.args.qses.now c.args.loads.now c.args.resources.now c.args.trades.now in
     let sound = table_sound b c.args.qses.now c.args.loads.now c.args.resources.now c.args.trades.now _ c.is_broken.ensures c.if-is_broken.false in

@@ -17,7 +17,7 @@ returns-then-is_broken c = (inl (table_broken (open_book c.args.self.now) c.args
 
 pub returns-in_err-row : goal.returns-in_err-row
 returns-in_err-row c =
-    let p = err_from_is_err_and c.from-residual.result c.from-residual.ensures.1 in
+    let p = err_from_is_err_and c.from_residual.result c.from_residual.ensures.1 in
     let sound = table_sound (open_book c.args.self.now) c.args.qses.now c.args.loads.now c.args.resources.now c.args.trades.now _ c.is_broken.ensures c.if-is_broken.false in
     rw (p.1, p.2) (inr (sound, inl c.in_err-row.ensures.entered), refl)
 

@@ -13,7 +13,7 @@ returns-then-is_broken c = inl (table_broken (struck_book c.args.self.now) c.arg
 
 pub returns-in_err-number : goal.returns-in_err-number
 returns-in_err-number c =
-    let p = err_from_is_err_and c.from-residual.result c.from-residual.ensures.1 in
+    let p = err_from_is_err_and c.from_residual.result c.from_residual.ensures.1 in
     let sound = table_sound (struck_book c.args.self.now) c.args.qses.now c.args.loads.now c.args.resources.now c.args.trades.now _ c.is_broken.ensures c.if-is_broken.false in
     rw (p.1, p.2) (inr (sound, inl (number_refused c.args.qse c.ranges.qse c.in_err-number.field-0.0 c.in_err-number.ensures)))
 
