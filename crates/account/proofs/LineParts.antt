@@ -1,13 +1,13 @@
 -- The parts of a line, from the capabilities as the code holds them.
 use Rattle.std.proofs.Common.{◌≡◌, ℕ, ◌<◌, min, cond, List, [], ◌∷◌, get_or, sym, refl, ap, ◌∙◌, arith}
-use Rattle.std.specs.List.{AllByRecursion as All}
+use Rattle.std.specs.List.{AllByRecursion}
 use Rattle.rows.specs.Rows.{PlainSide}
 use Rattle.rows.specs.declared.codes.Kind.{Kind}
 use Rattle.account.specs.View.{over, slow, up}
 use Rattle.account.specs.Lines.{room_of, capability_of, off_line, is_load, offline_by, load_part_by}
 
 -- a sum over sub-types sees no more than their places
-pub over_same : (ks : List ℕ) (f g : ℕ → ℕ) → All (λ k. k < 9) ks → ((k : ℕ) → k < 9 → f k ≡ g k) → over ks f ≡ over ks g
+pub over_same : (ks : List ℕ) (f g : ℕ → ℕ) → AllByRecursion (λ k. k < 9) ks → ((k : ℕ) → k < 9 → f k ≡ g k) → over ks f ≡ over ks g
 over_same [] f g all same = refl
 over_same (k ∷ ks) f g all same = omega (arith, same k all.0, over_same ks f g all.1 same)
 

@@ -1,6 +1,6 @@
 -- What the tests of a charge say of its causes, and what it puts on the plain rows.
 use Rattle.std.proofs.Common.{◌≡◌, ℕ, ◌+◌, ◌-◌, ◌*◌, ◌/◌, ◌<◌, ◌≤◌, min, Bool, true, false, List, [], ◌∷◌, map, length, take, drop, Ok, Err, Decides, sum_by, Result, sym, refl, ap, ◌∙◌, subst, inl, inr, mul-zero, arith}
-use Rattle.std.specs.List.{AllByRecursion as All}
+use Rattle.std.specs.List.{AllByRecursion}
 use Rattle.std.proofs.ByRecursion.{All-get_or, All-map, All-weaker}
 use Rattle.std.proofs.lemmas.List.{take-map, drop-map}
 use Rattle.std.proofs.lemmas.Bool.{false≢true, cases_lt}
@@ -25,11 +25,11 @@ use Rattle.book.specs.declared.books.Claim.{Claim}
 pub take_front : {X : Type 0} (n : ℕ) (xs : List X) → take (n - 0) xs ≡ take n xs
 take_front n xs = let e : n - 0 ≡ n = omega arith in ap (λ k. take k xs) e
 
-all_unmap : {X Y : Type 0} (P : Y → Type 0) (f : X → Y) (xs : List X) → All P (map f xs) → All (λ x. P (f x)) xs
+all_unmap : {X Y : Type 0} (P : Y → Type 0) (f : X → Y) (xs : List X) → AllByRecursion P (map f xs) → AllByRecursion (λ x. P (f x)) xs
 all_unmap P f [] h = tt
 all_unmap P f (x ∷ xs) h = (h.0, all_unmap P f xs h.1)
 
-pub room_from_low : {X : Type 0} (holds : X → ℕ) (pot : ℕ) (xs : List X) → pot ≤ 1000000000 → All (λ x. holds x ≤ 999000000000) xs → HasRoom holds pot xs
+pub room_from_low : {X : Type 0} (holds : X → ℕ) (pot : ℕ) (xs : List X) → pot ≤ 1000000000 → AllByRecursion (λ x. holds x ≤ 999000000000) xs → HasRoom holds pot xs
 room_from_low holds pot xs few low = All-weaker (λ x. holds x ≤ 999000000000) (λ x. holds x + pot ≤ max_cents) (λ x le. omega arith) xs low
 
 module _ {X : Type 0} (weighs holds : X → ℕ) (paid : X → ℕ → X → Type 0) (pot : ℕ) (old new : List X) (room : HasRoom holds pot old) (some : sum_by weighs old ≡ 0 → pot ≡ 0) where
@@ -56,7 +56,7 @@ pub plain_kwh : (ls : List LoadRow) → sum_by (λ x. x.kwh) (map plain_load ls)
 plain_kwh = sum_by_map plain_load (λ x. x.kwh) (λ x. x.kwh) (λ x. refl)
 
 module _ (T : ℕ) (qs : List QseRow) (ls : List LoadRow) where
-  pub fit_from_rows : sum_by (λ x. x.shortfall) qs ≡ T → All (λ x. x.cents ≤ 999000000000) qs → All (λ x. x.cents ≤ 999000000000) ls → Fit T (map plain_qse qs) (map plain_load ls)
+  pub fit_from_rows : sum_by (λ x. x.shortfall) qs ≡ T → AllByRecursion (λ x. x.cents ≤ 999000000000) qs → AllByRecursion (λ x. x.cents ≤ 999000000000) ls → Fit T (map plain_qse qs) (map plain_load ls)
   fit_from_rows sum low low' = record {
     sums = plain_short qs ∙ sum;
     qses = All-map (λ x. x.cents ≤ 999000000000) plain_qse qs low;
@@ -67,10 +67,10 @@ module _ (T : ℕ) (qs : List QseRow) (ls : List LoadRow) where
     pub short_from_fit : sum_by (λ x. x.shortfall) qs ≡ T
     short_from_fit = sym (plain_short qs) ∙ fit.sums
 
-    pub low_qses_from_fit : All (λ x. x.cents ≤ 999000000000) qs
+    pub low_qses_from_fit : AllByRecursion (λ x. x.cents ≤ 999000000000) qs
     low_qses_from_fit = all_unmap (λ x. x.cents ≤ 999000000000) plain_qse qs fit.qses
 
-    pub low_loads_from_fit : All (λ x. x.cents ≤ 999000000000) ls
+    pub low_loads_from_fit : AllByRecursion (λ x. x.cents ≤ 999000000000) ls
     low_loads_from_fit = all_unmap (λ x. x.cents ≤ 999000000000) plain_load ls fit.loads
 
 module _ (pot n : ℕ) where
@@ -128,10 +128,10 @@ module _ (b : Book) (qs : List QseRow) (ls : List LoadRow) (rs : List ResourceRo
 
       module _ (pot : ℕ) (few : pot ≤ 1000000000) where
         pub qses_room : HasRoom (λ x. x.cents) pot (take b.qses qs)
-        qses_room = room_from_low (λ x. x.cents) pot _ few (subst (All (λ x. x.cents ≤ 999000000000)) (take_front b.qses qs) (low_qses_from_fit b.total _ _ (test.0 e)))
+        qses_room = room_from_low (λ x. x.cents) pot _ few (subst (AllByRecursion (λ x. x.cents ≤ 999000000000)) (take_front b.qses qs) (low_qses_from_fit b.total _ _ (test.0 e)))
 
         pub loads_room : HasRoom (λ x. x.cents) pot (take b.loads ls)
-        loads_room = room_from_low (λ x. x.cents) pot _ few (subst (All (λ x. x.cents ≤ 999000000000)) (take_front b.loads ls) (low_loads_from_fit b.total _ _ (test.0 e)))
+        loads_room = room_from_low (λ x. x.cents) pot _ few (subst (AllByRecursion (λ x. x.cents ≤ 999000000000)) (take_front b.loads ls) (low_loads_from_fit b.total _ _ (test.0 e)))
 
   module _ (c : Claim) (p : ℕ) (pot : p ≡ pot_of c b.total) (r : Bool)
       (test : Decides r ((0 < c.cents - p) × (sum_by (λ x. x.kwh) (map plain_load (take (b.loads - 0) ls)) ≡ 0))) where

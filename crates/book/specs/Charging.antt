@@ -1,6 +1,6 @@
 -- What a charge answers, and what it puts on the rows.
 use Rattle.std.specs.Prelude.{◌≡◌, ℕ, ◌+◌, ◌-◌, ◌*◌, ◌/◌, ◌<◌, ◌≤◌, min, List, [], ◌∷◌, take, drop, Ok, Err, sum_by, Result}
-use Rattle.std.specs.List.{AllByRecursion as All}
+use Rattle.std.specs.List.{AllByRecursion}
 use Rattle.rows.specs.Rows.{PlainQse, PlainLoad}
 use Rattle.rows.specs.declared.fault.Fault.{Fault}
 use Rattle.rows.specs.declared.fault.Fault.TheVariants.{BrokenTable, NoLoad}
@@ -16,8 +16,8 @@ pot_of c T = min c.cents (c.rate * T / 1000)
 -- the shortfalls sum to T, and each row can take a claim
 pub record Fit (T : ℕ) (qs : List PlainQse) (ls : List PlainLoad) : Type 0 where
   pub sums : sum_by (λ x. x.shortfall) qs ≡ T
-  pub qses : All (λ x. x.cents ≤ 999000000000) qs
-  pub loads : All (λ x. x.cents ≤ 999000000000) ls
+  pub qses : AllByRecursion (λ x. x.cents ≤ 999000000000) qs
+  pub loads : AllByRecursion (λ x. x.cents ≤ 999000000000) ls
 
 abbrev pub unfit : State → Cause
 unfit s e = (e ≡ BrokenTable) × (Fit s.book.total (qse_rows s) (load_rows s) → ⊥)

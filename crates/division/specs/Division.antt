@@ -1,6 +1,6 @@
 -- The division of a pot over rows by their weight.
 use Rattle.std.specs.Prelude.{◌≡◌, ℕ, ◌+◌, ◌-◌, ◌*◌, ◌/◌, ◌<◌, ◌≤◌, List, length, take, Ok, Err, sum_by, Result, slice_index_or}
-use Rattle.std.specs.List.{AllByRecursion as All}
+use Rattle.std.specs.List.{AllByRecursion}
 use Rattle.rows.specs.declared.fault.Fault.{Fault}
 use Rattle.rows.specs.declared.fault.Fault.TheVariants.{BrokenTable}
 use Rattle.rows.specs.Limits.{max_cents}
@@ -15,7 +15,7 @@ upto weighs rows i = sum_by weighs (take i rows)
 
 -- each row can take the whole pot
 abbrev pub HasRoom : {X : Type 0} → (X → ℕ) → ℕ → List X → Type 0
-HasRoom holds pot rows = All (λ x. holds x + pot ≤ max_cents) rows
+HasRoom holds pot rows = AllByRecursion (λ x. holds x + pot ≤ max_cents) rows
 
 -- some row cannot
 pub record TooFull {X : Type 0} (holds : X → ℕ) (pot : ℕ) (rows : List X) : Type 0 where

@@ -1,6 +1,6 @@
 -- Totals over lines: a turn of the loop over rows, and the sum over an account's lines.
 use Rattle.std.proofs.Common.{◌≡◌, ℕ, ◌+◌, ◌<◌, ◌≤◌, min, Bool, true, false, cond, List, [], ◌∷◌, map, get_or, sum_by, filter, sym, refl, ap, ◌∙◌, arith}
-use Rattle.std.specs.List.{AllByRecursion as All}
+use Rattle.std.specs.List.{AllByRecursion}
 use Rattle.rows.specs.Rows.{plain_resource}
 use Rattle.rows.specs.declared.resource.ResourceRow.{ResourceRow}
 use Rattle.account.specs.View.{View, Line, over}
@@ -17,7 +17,7 @@ use Rattle.measure.specs.declared.levels.Levels.{Levels}
 use Rattle.measure.specs.declared.totals.Totals.{Totals}
 
 -- the groups of the levels hold places below 9 alone
-pub levels_same : {l : Levels} (f g : List ℕ → ℕ) → ((ks : List ℕ) → All (λ k. k < 9) ks → f ks ≡ g ks) → IsLevels l f → IsLevels l g
+pub levels_same : {l : Levels} (f g : List ℕ → ℕ) → ((ks : List ℕ) → AllByRecursion (λ k. k < 9) ks → f ks ≡ g ks) → IsLevels l f → IsLevels l g
 levels_same f g same i = record {
   regup = i.regup ∙ same _ (omega arith, tt);
   rrs = i.rrs ∙ same _ (omega arith, (omega arith, (omega arith, tt)));
@@ -41,7 +41,7 @@ pub under_more : {t : Totals} (m n : ℕ) → m ≤ n → Under t m → Under t 
 under_more m n h u = record { supply = omega (arith, u.supply); offline = omega (arith, u.offline); served = at_most_more m n h u.served }
 
 -- what the code's line serves of a group
-pub served_is : (l : LineRow) (m : Line) → IsLine l m → (ks : List ℕ) → All (λ k. k < 9) ks → min l.room (over ks (λ k. get_or l.capability k 0)) ≡ served ks m
+pub served_is : (l : LineRow) (m : Line) → IsLine l m → (ks : List ℕ) → AllByRecursion (λ k. k < 9) ks → min l.room (over ks (λ k. get_or l.capability k 0)) ≡ served ks m
 served_is l m is ks all = omega (arith, is.room, over_same ks (λ k. get_or l.capability k 0) m.capability all is.capability)
 
 -- a row of the account counts with its line

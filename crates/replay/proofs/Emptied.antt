@@ -1,6 +1,6 @@
 -- A purse emptied from its end.
 use Rattle.std.proofs.Common.{◌≡◌, ℕ, ◌+◌, ◌-◌, ◌<◌, true, List, [], ◌∷◌, ◌++◌, Some, None, sum_by, Option, sym, refl, ap, ◌∙◌, subst, arith}
-use Rattle.std.specs.List.{AllByRecursion as All}
+use Rattle.std.specs.List.{AllByRecursion}
 use Rattle.std.proofs.lemmas.List.Sums.{sum_by_push}
 use Rattle.std.proofs.lemmas.Bool.{false≢true}
 use Rattle.rows.specs.declared.load.LoadRow.{LoadRow}
@@ -22,7 +22,7 @@ empty_front p o e = omega (arith, sum_by_push claims_at p o, e)
 pub empty_last : (p : List (Option Slip)) (c : Slip) → claims_in (p ++ Some c ∷ []) ≡ 0 → ⊥
 empty_last p c e = omega (arith, sum_by_push claims_at p (Some c), e)
 
-front : {X : Type 0} (P : X → Type 0) (xs : List X) (x : X) → All P (xs ++ x ∷ []) → All P xs × P x
+front : {X : Type 0} (P : X → Type 0) (xs : List X) (x : X) → AllByRecursion P (xs ++ x ∷ []) → AllByRecursion P xs × P x
 front P [] x h = (tt, h.0)
 front P (y ∷ xs) x h = let r = front P xs x h.1 in ((h.0, r.0), r.1)
 

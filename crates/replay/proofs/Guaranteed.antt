@@ -1,6 +1,6 @@
 -- The guarantee over every run from an opening.
 use Rattle.std.proofs.Common.{◌≡◌, ℕ, zero, suc, ◌+◌, ◌-◌, ◌*◌, ◌/◌, ◌<◌, ◌≤◌, min, Bool, true, false, cond, ◌⊎◌, List, [], ◌∷◌, ◌++◌, map, length, get_or, take, ℤ, Some, None, Ok, Err, sum_by, filter, Result, sym, refl, ap, ◌∙◌, subst, inl, inr, arith}
-use Rattle.std.specs.List.{AllByRecursion as All}
+use Rattle.std.specs.List.{AllByRecursion}
 use Rattle.std.proofs.lemmas.List.Elements.{filter-append}
 use Rattle.std.proofs.ByRecursion.{All-get_or}
 use Rattle.std.proofs.lemmas.List.{get_or-map, take_more_set, append-nil}
@@ -186,7 +186,7 @@ module _ (ms : List (View → ℕ)) (lawful : (j : ℕ) → Lawful (measure_at m
     helps xs d' j q (inl (o, h)) = supply_helps (measure_at ms j) (lawful j).help d.state d'.state xs.now (supply_done xs.now d d' h) q
     helps xs d' j q (inr (o, h)) = let is = h.answer in let z : ◌≡◌ {A = ℕ} 0 1 = cc in absurd (not_one z)
 
-  after_run : (d₀ : Desk) (es : List Entry) (d : Desk) → ((fs : List Entry) (b : Desk) → Run ms d₀ fs b → Kept ms (last_strike fs no_strike) (0 + Rattle.replay.specs.Guarantee.chargedIn fs) b.state) → (claims_in d₀.purse ≡ 0 → Holding d) → Run ms d₀ es d → After ms d₀ es d
+  after_run : (d₀ : Desk) (es : List Entry) (d : Desk) → ((fs : List Entry) (b : Desk) → Run ms d₀ fs b → Kept ms (last_strike fs no_strike) (0 + Rattle.replay.specs.Guarantee.charged_in fs) b.state) → (claims_in d₀.purse ≡ 0 → Holding d) → Run ms d₀ es d → After ms d₀ es d
   after_run d₀ es d reach held ran =
       let kept = reach es d ran in
       record {

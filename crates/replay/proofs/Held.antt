@@ -1,6 +1,6 @@
 -- The claims in a purse that was empty at the opening are those outstanding.
 use Rattle.std.proofs.Common.{◌≡◌, ℕ, zero, suc, ◌+◌, ◌-◌, ◌<◌, ◌≤◌, Bool, true, false, ◌⊎◌, List, [], ◌∷◌, ◌++◌, map, length, get_or, take, drop, set, ℤ, Some, None, Ok, Err, sum_by, Option, Result, sym, refl, ap, ◌∙◌, subst, inl, inr, arith}
-use Rattle.std.specs.List.{AllByRecursion as All}
+use Rattle.std.specs.List.{AllByRecursion}
 use Rattle.std.proofs.ByRecursion.{All-set}
 use Rattle.std.proofs.lemmas.List.{length-set, length-append, length-take, length-take-le, length-map}
 use Rattle.std.proofs.lemmas.List.Sums.{sum_by-cons, sum_by-set}
@@ -70,7 +70,7 @@ held_opened d n new empty =
       };
     }
   where
-    none_ours : (n : ℕ) (p : List (Option Slip)) → claims_in p ≡ 0 → All (OfBook n) p
+    none_ours : (n : ℕ) (p : List (Option Slip)) → claims_in p ≡ 0 → AllByRecursion (OfBook n) p
     none_ours n [] e = tt
     none_ours n (Some c ∷ p) e = absurd (omega (arith, e, sum_by-cons claims_at (Some c) p))
     none_ours n (None ∷ p) e = (tt, none_ours n p (omega (arith, e, sum_by-cons claims_at None p)))
@@ -85,7 +85,7 @@ module _ (d d' : Desk) (held : Holding d) where
   held_next s e p out number unstruck long =
       subst (λ (x : State). Holding (record { state = x; covers = d'.covers; purse = d'.purse })) (sym e) (record {
         claims = ap claims_in p ∙ held.claims ∙ sym out;
-        ours = subst (λ n. All (OfBook n) d'.purse) (sym number) (subst (All (OfBook d.state.book.number)) (sym p) held.ours);
+        ours = subst (λ n. AllByRecursion (OfBook n) d'.purse) (sym number) (subst (AllByRecursion (OfBook d.state.book.number)) (sym p) held.ours);
         none = λ o. out ∙ held.none (unstruck o);
         long = long;
       })
@@ -107,7 +107,7 @@ module _ (d d' : Desk) (held : Holding d) where
       let out : d'.state.book.outstanding ≡ d.state.book.outstanding - 1 = ap (λ (x : Book). x.outstanding) b in
       record {
         claims = omega (arith, ap claims_in p, sum, one, held.claims, out);
-        ours = subst (λ n. All (OfBook n) d'.purse) (sym (ap (λ (x : Book). x.number) b)) (subst (All (OfBook d.state.book.number)) (sym p) (All-set (OfBook d.state.book.number) d.purse k None tt held.ours));
+        ours = subst (λ n. AllByRecursion (OfBook n) d'.purse) (sym (ap (λ (x : Book). x.number) b)) (subst (AllByRecursion (OfBook d.state.book.number)) (sym p) (All-set (OfBook d.state.book.number) d.purse k None tt held.ours));
         none = λ o. omega (arith, out, held.none (sym (ap (λ (x : Book). x.struck) b) ∙ o));
         long = long;
       }
@@ -135,7 +135,7 @@ module _ (d d' : Desk) (held : Holding d) where
           let b : d'.state.book ≡ with_claims s.book (s.book.made + 1) (s.book.outstanding + 1) = ap (λ (x : State). x.book) done.2 in
           record {
             claims = omega (arith, ap claims_in p, sum, none, held.claims, ap (λ (x : Book). x.outstanding) b);
-            ours = subst (λ n. All (OfBook n) d'.purse) (sym (ap (λ (x : Book). x.number) b)) (subst (All (OfBook s.book.number)) (sym p) (All-set (OfBook s.book.number) d.purse k (Some c) done.1.book held.ours));
+            ours = subst (λ n. AllByRecursion (OfBook n) d'.purse) (sym (ap (λ (x : Book). x.number) b)) (subst (AllByRecursion (OfBook s.book.number)) (sym p) (All-set (OfBook s.book.number) d.purse k (Some c) done.1.book held.ours));
             none = λ o. absurd (false≢true (sym o ∙ ap (λ (x : Book). x.struck) b ∙ struck));
             long = subst Long (sym done.2) (record { qses = held.long.qses; loads = held.long.loads; resources = held.long.resources; trades = held.long.trades });
           }
@@ -242,7 +242,7 @@ module _ (d d' : Desk) (held : Holding d) where
       let none : s.book.outstanding ≡ 0 = elim (cases_lt 0 s.book.outstanding) [ inl some ↦ absurd (g.0.1.0 ClaimOutstanding (refl, some)) | inr le ↦ omega (arith, le) ] in
       subst (λ (x : State). Holding (record { state = x; covers = d'.covers; purse = d'.purse })) (sym g.1) (record {
         claims = ap claims_in p ∙ held.claims;
-        ours = subst (All (OfBook s.book.number)) (sym p) held.ours;
+        ours = subst (AllByRecursion (OfBook s.book.number)) (sym p) held.ours;
         none = λ _. none;
         long = record { qses = held.long.qses; loads = held.long.loads; resources = held.long.resources; trades = held.long.trades };
       })) (λ e x. x.1) h

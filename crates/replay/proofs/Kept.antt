@@ -1,6 +1,6 @@
 -- What every call keeps of a book that was opened.
 use Rattle.std.proofs.Common.{◌≡◌, ℕ, zero, suc, ◌+◌, ◌<◌, ◌≤◌, Bool, true, false, cond, eqb, ◌⊎◌, List, [], ◌∷◌, ◌++◌, map, length, get_or, take, drop, set, sum_by, sym, refl, ap, ◌∙◌, subst, inl, inr, ⊎_elim, arith}
-use Rattle.std.specs.List.{AllByRecursion as All}
+use Rattle.std.specs.List.{AllByRecursion}
 use Rattle.std.proofs.ByRecursion.{All-push, All-weaker, All-map}
 use Rattle.std.proofs.lemmas.List.{take_more_set, map_push, length-map}
 use Rattle.std.proofs.lemmas.List.Sums.{sum_by_push, sum_by-cons}
@@ -30,7 +30,7 @@ use Rattle.replay.proofs.Tables.{map_same, map_twice, all_unmap, sum_agree, fron
 pub record Written (m : View → ℕ) (t : ℕ) (s : State) : Type 0 where
   pub total : s.book.total ≡ t
   pub sum : t ≡ sum_short m s
-  pub rows : All (λ x. x.shortfall ≡ row_short m (tables_of s) x) (qse_rows s)
+  pub rows : AllByRecursion (λ x. x.shortfall ≡ row_short m (tables_of s) x) (qse_rows s)
 
 abbrev pub cents_in : State → ℕ
 cents_in s = sum_by (λ x. x.cents) (qse_rows s) + sum_by (λ l. l.cents) (load_rows s)
@@ -38,7 +38,7 @@ cents_in s = sum_by (λ x. x.cents) (qse_rows s) + sum_by (λ l. l.cents) (load_
 -- k is the last strike, n the cents charged so far
 pub record Kept (ms : List (View → ℕ)) (k : Struck) (n : ℕ) (s : State) : Type 0 where
   pub distinct : Distinct (numbers (qse_rows s))
-  pub parties : All (λ r. Among (numbers (qse_rows s)) r.qse) (tables_of s).resources
+  pub parties : AllByRecursion (λ r. Among (numbers (qse_rows s)) r.qse) (tables_of s).resources
   pub struck : s.book.struck ≡ true → Written (measure_at ms k.measure) k.total s
   pub cents : cents_in s ≡ n
 
@@ -70,7 +70,7 @@ module _ (ms : List (View → ℕ)) (k : Struck) (n : ℕ) where
       subst (λ b. Kept ms k 0 (at b)) (sym new) (record { distinct = tt; parties = tt; struck = λ e. absurd (false≢true e); cents = refl })
 
   -- an open book keeps numbers, parties and cents alone
-  open_kept : (s : State) → s.book.struck ≡ false → Distinct (numbers (qse_rows s)) → All (λ r. Among (numbers (qse_rows s)) r.qse) (tables_of s).resources → cents_in s ≡ n → Kept ms k n s
+  open_kept : (s : State) → s.book.struck ≡ false → Distinct (numbers (qse_rows s)) → AllByRecursion (λ r. Among (numbers (qse_rows s)) r.qse) (tables_of s).resources → cents_in s ≡ n → Kept ms k n s
   open_kept s o d p c = record { distinct = d; parties = p; struck = λ e. absurd (false≢true (sym o ∙ e)); cents = c }
 
   module _ (s : State) (o : s.book.struck ≡ false) (kept : Kept ms k n s) where
@@ -93,13 +93,13 @@ module _ (ms : List (View → ℕ)) (k : Struck) (n : ℕ) where
     resource_kept r known room =
         let rows = take_more_set s.resources s.book.resources r room in
         open_kept (add_resource s r) o kept.distinct
-        (subst (All (λ x. Among (numbers (qse_rows s)) x.qse)) (sym rows) (All-push _ (tables_of s).resources r kept.parties known)) kept.cents
+        (subst (AllByRecursion (λ x. Among (numbers (qse_rows s)) x.qse)) (sym rows) (All-push _ (tables_of s).resources r kept.parties known)) kept.cents
 
     -- the trades are no part of it
     pub trades_kept : (s' : State) → s'.book.struck ≡ false → qse_rows s' ≡ qse_rows s → load_rows s' ≡ load_rows s → (tables_of s').resources ≡ (tables_of s).resources → Kept ms k n s'
     trades_kept s' o' qs ls rs =
         open_kept s' o' (subst (λ l. Distinct (numbers l)) (sym qs) kept.distinct)
-        (subst (λ l. All (λ r. Among (numbers l) r.qse) (tables_of s').resources) (sym qs) (subst (All (λ r. Among (numbers (qse_rows s)) r.qse)) (sym rs) kept.parties))
+        (subst (λ l. AllByRecursion (λ r. Among (numbers l) r.qse) (tables_of s').resources) (sym qs) (subst (AllByRecursion (λ r. Among (numbers (qse_rows s)) r.qse)) (sym rs) kept.parties))
         (omega (arith, ap (sum_by (λ x. x.cents)) qs, ap (sum_by (λ l. l.cents)) ls, kept.cents))
 
     pub figures_kept : (q : ℕ) (f : PlainFigures) → Absent (broken s) → Kept ms k n (with_qses s (refigured q f (qse_rows s) ++ drop s.book.qses s.qses))
@@ -112,7 +112,7 @@ module _ (ms : List (View → ℕ)) (k : Struck) (n : ℕ) where
         let cents : sum_by (λ x. x.cents) (qse_rows s') ≡ sum_by (λ x. x.cents) (qse_rows s) =
         ap (sum_by (λ x. x.cents)) rows ∙ sym (sum_map (λ c. c) (λ x. x.cents) new) ∙ ap (sum_by (λ c. c)) (refigured_map (λ x. x.cents) q f (λ x. refl) (qse_rows s)) ∙ sum_map (λ c. c) (λ x. x.cents) (qse_rows s) in
         open_kept s' o (subst Distinct (sym ns) kept.distinct)
-        (subst (λ l. All (λ r. Among l r.qse) (tables_of s).resources) (sym ns) kept.parties) (omega (arith, cents, kept.cents))
+        (subst (λ l. AllByRecursion (λ r. Among l r.qse) (tables_of s).resources) (sym ns) kept.parties) (omega (arith, cents, kept.cents))
 
   -- claims made or handed back, and a book opened again
   pub claims_kept : (s : State) (made out : ℕ) → Kept ms k n s → Kept ms k n (with_book s (with_claims s.book made out))
@@ -138,15 +138,15 @@ strike_kept ms k n j s sound kept =
     let rows = struck_rows_are m s sound in
     let ns : numbers (qse_rows (struck_state m s)) ≡ numbers (qse_rows s) = ap numbers rows ∙ map_twice (λ x. x.number) w (qse_rows s) in
     let sums : sum_short m (struck_state m s) ≡ sum_short m s = ap (λ l. total m (owns t l)) rows ∙ ap (total m) (map_twice (λ q. qse_own q t) w (qse_rows s)) in
-    let every : (xs : List PlainQse) → All (λ x. (w x).shortfall ≡ row_short m t (w x)) xs = all_refl m t in
+    let every : (xs : List PlainQse) → AllByRecursion (λ x. (w x).shortfall ≡ row_short m t (w x)) xs = all_refl m t in
     record {
       distinct = subst Distinct (sym ns) kept.distinct;
-      parties = subst (λ l. All (λ r. Among l r.qse) t.resources) (sym ns) kept.parties;
-      struck = λ _. record { total = refl; sum = sym sums; rows = subst (All (λ x. x.shortfall ≡ row_short m t x)) (sym rows) (All-map (λ x. x.shortfall ≡ row_short m t x) w (qse_rows s) (every (qse_rows s))) };
+      parties = subst (λ l. AllByRecursion (λ r. Among l r.qse) t.resources) (sym ns) kept.parties;
+      struck = λ _. record { total = refl; sum = sym sums; rows = subst (AllByRecursion (λ x. x.shortfall ≡ row_short m t x)) (sym rows) (All-map (λ x. x.shortfall ≡ row_short m t x) w (qse_rows s) (every (qse_rows s))) };
       cents = omega (arith, ap (sum_by (λ x. x.cents)) rows, sum_map (λ x. x.cents) w (qse_rows s), kept.cents);
     }
   where
-    all_refl : (m : View → ℕ) (t : PlainTables) (xs : List PlainQse) → All (λ x. (written m t x).shortfall ≡ row_short m t (written m t x)) xs
+    all_refl : (m : View → ℕ) (t : PlainTables) (xs : List PlainQse) → AllByRecursion (λ x. (written m t x).shortfall ≡ row_short m t (written m t x)) xs
     all_refl m t [] = tt
     all_refl m t (x ∷ xs) = (refl, all_refl m t xs)
 
@@ -180,8 +180,8 @@ module _ (c : Slip) (s s' : State) (p r : ℕ) (done : Charged c s s' p r) where
   written_charged : (m : View → ℕ) (t : ℕ) → Written m t s → Written m t s'
   written_charged m t w =
       let P : PlainTables → PlainQse → Type 0 = λ t x. x.shortfall ≡ row_short m t x in
-      let here : All (P (tables_of s)) (qse_rows s') =
-      all_unmap (P (tables_of s)) bare_qse (qse_rows s') (subst (All (P (tables_of s))) (sym bare_rows) (All-map (P (tables_of s)) bare_qse (qse_rows s) w.rows)) in
+      let here : AllByRecursion (P (tables_of s)) (qse_rows s') =
+      all_unmap (P (tables_of s)) bare_qse (qse_rows s') (subst (AllByRecursion (P (tables_of s))) (sym bare_rows) (All-map (P (tables_of s)) bare_qse (qse_rows s) w.rows)) in
       record {
         total = ap (λ (b : Book). b.total) done.book ∙ w.total;
         sum = w.sum ∙ sym (ap (total m) (map_same (λ x. qse_own x (tables_of s')) (λ x. qse_own x (tables_of s)) own_charged (qse_rows s') ∙ same_owns (tables_of s) (qse_rows s) (qse_rows s') bare_rows));
@@ -193,7 +193,7 @@ module _ (c : Slip) (s s' : State) (p r : ℕ) (done : Charged c s s' p r) where
       let ns : numbers (qse_rows s') ≡ numbers (qse_rows s) = sym (map_twice (λ x. x.number) bare_qse (qse_rows s')) ∙ ap numbers bare_rows ∙ map_twice (λ x. x.number) bare_qse (qse_rows s) in
       record {
         distinct = subst Distinct (sym ns) kept.distinct;
-        parties = subst (λ l. All (λ r. Among l r.qse) (tables_of s').resources) (sym ns) (subst (All (λ r. Among (numbers (qse_rows s)) r.qse)) (sym charged_resources) kept.parties);
+        parties = subst (λ l. AllByRecursion (λ r. Among l r.qse) (tables_of s').resources) (sym ns) (subst (AllByRecursion (λ r. Among (numbers (qse_rows s)) r.qse)) (sym charged_resources) kept.parties);
         struck = λ e. written_charged (measure_at ms k.measure) k.total (kept.struck (sym (ap (λ (b : Book). b.struck) done.book) ∙ e));
         cents = omega (
           arith,

@@ -1,7 +1,7 @@
 -- What holds of every run of calls from an opening.
 use Rattle.std.specs.Prelude.{◌≡◌, ℕ, ◌+◌, ◌*◌, ◌<◌, ◌≤◌, Bool, true, false, List, [], ◌∷◌, length, ℤ, Some, None, sum_by, Option, slice_index_or}
 use Rattle.std.specs.Borrow.{Bor}
-use Rattle.std.specs.List.{AllByRecursion as All}
+use Rattle.std.specs.List.{AllByRecursion}
 use Rattle.rows.specs.Rows.{PlainQse}
 use Rattle.account.specs.View.{View, counted}
 use Rattle.measure.specs.Laws.{Order, Pool, Help, Nothing}
@@ -122,7 +122,7 @@ pub record Long (s : State) : Type 0 where
 -- the claims in the purse are those outstanding, all of them the book's, and an open book has none
 pub record Holding (d : Desk) : Type 0 where
   pub claims : claims_in d.purse ≡ d.state.book.outstanding
-  pub ours : All (OfBook d.state.book.number) d.purse
+  pub ours : AllByRecursion (OfBook d.state.book.number) d.purse
   pub none : d.state.book.struck ≡ false → d.state.book.outstanding ≡ 0
   pub long : Long d.state
 

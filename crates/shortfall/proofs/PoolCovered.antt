@@ -1,7 +1,7 @@
 -- The sum of shortfalls is at least the pool's, by Order, Pool and Nothing.
 use Rattle.std.proofs.Common.{◌≡◌, ℕ, ◌+◌, ◌≤◌, max, List, [], ◌∷◌, ◌++◌, map, sum_by, sym, refl, ap, ◌∙◌, subst, zero-le, arith}
 use Rattle.std.specs.List.Sorted.{IsPermutation}
-use Rattle.std.specs.List.{AllByRecursion as All}
+use Rattle.std.specs.List.{AllByRecursion}
 use Rattle.std.proofs.lemmas.List.Sums.{sum_by-cons}
 use Rattle.rows.specs.Rows.{PlainQse, PlainResource}
 use Rattle.rows.specs.declared.codes.Side.{Side}
@@ -47,7 +47,7 @@ module _ (t : PlainTables) (side : Side) where
   own_blocks [] = refl
   own_blocks (q ∷ qs) = ap (λ l. (view_on side (qse_own q t)).lines ++ l) (own_blocks qs)
 
-  lines_in_order : (qs : List PlainQse) → Distinct (numbers qs) → All (λ r. Among (numbers qs) r.qse) t.resources → IsPermutation (joined side (owns t qs)).lines (lines_on side t.resources)
+  lines_in_order : (qs : List PlainQse) → Distinct (numbers qs) → AllByRecursion (λ r. Among (numbers qs) r.qse) t.resources → IsPermutation (joined side (owns t qs)).lines (lines_on side t.resources)
   lines_in_order qs distinct all =
       subst (λ l. IsPermutation l (lines_on side t.resources)) (own_blocks qs) (table_order (λ r. r.qse) (line_of side) _ t.resources distinct all)
 

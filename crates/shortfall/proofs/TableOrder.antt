@@ -2,7 +2,7 @@
 use Rattle.std.proofs.Common.{◌≡◌, ℕ, ◌+◌, ◌<◌, ◌≤◌, Bool, true, false, cond, not, eqb, ◌⊎◌, List, [], ◌∷◌, ◌++◌, map, length, filter, sym, refl, ap, ◌∙◌, subst, inl, inr, arith, eq-eqb, ne_eqb, eqb-true}
 use borrow.Author.Tests.{eqb-false}
 use Rattle.std.specs.List.Sorted.{IsPermutation}
-use Rattle.std.specs.List.{AllByRecursion as All}
+use Rattle.std.specs.List.{AllByRecursion}
 use Rattle.std.proofs.lemmas.List.Sorted.{IsPermutation-refl, IsPermutation-cons, IsPermutation-trans, IsPermutation-swap}
 use Rattle.shortfall.specs.Pool.{Among, Distinct}
 
@@ -58,12 +58,12 @@ module _ {X Y : Type 0} (key : X → ℕ) (f : X → Y) where
   blocks_skip q (q' ∷ qs) out xs =
       ap (λ l. map f l ++ blocks qs (filter (other q) xs)) (skip q q' (λ e. out (inl (sym e))) xs) ∙ ap (λ l. map f (filter (own q') xs) ++ l) (blocks_skip q qs (λ m. out (inr m)) xs)
 
-  still : (q : ℕ) (qs : List ℕ) (xs : List X) → All (λ x. Among (q ∷ qs) (key x)) xs → All (λ x. Among qs (key x)) (filter (other q) xs)
+  still : (q : ℕ) (qs : List ℕ) (xs : List X) → AllByRecursion (λ x. Among (q ∷ qs) (key x)) xs → AllByRecursion (λ x. Among qs (key x)) (filter (other q) xs)
   still q qs [] all = tt
   still q qs (x ∷ xs) all =
       let N = filter (other q) xs in
       let rest = still q qs xs all.1 in
-      let P : List X → Type 0 = All (λ x. Among qs (key x)) in
+      let P : List X → Type 0 = AllByRecursion (λ x. Among qs (key x)) in
       let go : (b : Bool) → own q x ≡ b → P (cond (not b) (x ∷ N) N) =
       λ b. elim b as (λ b. own q x ≡ b → P (cond (not b) (x ∷ N) N)) [
         | true ↦ λ e. rest
@@ -71,7 +71,7 @@ module _ {X Y : Type 0} (key : X → ℕ) (f : X → Y) where
       ] in
       go (own q x) refl
 
-  pub table_order : (qs : List ℕ) (xs : List X) → Distinct qs → All (λ x. Among qs (key x)) xs → IsPermutation (blocks qs xs) (map f xs)
+  pub table_order : (qs : List ℕ) (xs : List X) → Distinct qs → AllByRecursion (λ x. Among qs (key x)) xs → IsPermutation (blocks qs xs) (map f xs)
   table_order [] [] d all = IsPermutation-refl []
   table_order [] (x ∷ xs) d all = absurd all.0
   table_order (q ∷ qs) xs d all =

@@ -1,6 +1,6 @@
 -- The pool: one QSE that every row names.
 use Rattle.std.specs.Prelude.{◌≡◌, ℕ, ◌≤◌, ◌⊎◌, List, [], ◌∷◌, map, length, sum_by}
-use Rattle.std.specs.List.{AllByRecursion as All}
+use Rattle.std.specs.List.{AllByRecursion}
 use Rattle.rows.specs.Rows.{PlainQse, PlainResource}
 use Rattle.rows.specs.declared.codes.Side.{Side}
 use Rattle.account.specs.View.{View, zeros, add, with_lines}
@@ -44,7 +44,7 @@ numbers qs = map (λ q. q.number) qs
 abbrev pub CoversPool : (View → ℕ) → PlainTables → List PlainQse → ℕ → Type 0
 CoversPool m t qs s =
     Distinct (numbers qs)
-    → All (λ r. Among (numbers qs) r.qse) t.resources
+    → AllByRecursion (λ r. Among (numbers qs) r.qse) t.resources
     → pool_shortfall m (owns t qs) t.resources ≤ s
 
 -- the pool of up to 64 QSEs is worth at most 10^12 on either side

@@ -1,6 +1,6 @@
 // Claims charged to the rows.
 ghost use Rattle.std.specs.Prelude.{◌≡◌, ℕ, ◌<◌, ◌≤◌, map, length, take, drop, Decides, sum_by};
-ghost use Rattle.std.specs.List.{AllByRecursion as All};
+ghost use Rattle.std.specs.List.{AllByRecursion};
 ghost use Rattle.rows.specs.Rows.{plain_qse, plain_load};
 ghost use Rattle.division.specs.Division.{HasRoom, Divided};
 ghost use Rattle.book.specs.State.{state_of, struck_book};
@@ -35,7 +35,7 @@ fn pot_of(claim: &Claim, total: u32) -> u32
 
 // Whether each row can take any claim.
 fn all_low<T: Weighed>(rows: &[T]) -> bool
-    ensures { Decides result (All (λ x. T.holds x ≤ 999000000000) rows.now) }
+    ensures { Decides result (AllByRecursion (λ x. T.holds x ≤ 999000000000) rows.now) }
 {
     for row in rows {
         if row.cents() > LOW_CENTS {

@@ -1,5 +1,5 @@
 use Rattle.std.proofs.Common.{◌+◌, ◌≤◌, ap, subst, arith}
-use Rattle.std.specs.List.{AllByRecursion as All}
+use Rattle.std.specs.List.{AllByRecursion}
 use Rattle.std.proofs.lemmas.List.{take_all}
 use Rattle.std.proofs.ByRecursion.{All-more}
 use Rattle.rows.specs.Limits.{max_cents}
@@ -13,4 +13,4 @@ loop-row-preserved g c =
     (omega (arith, ap holds c.row-item.is))
 
 pub returns : goal.returns
-returns g c = subst (All (λ x. g.T.Weighed.holds x + c.args.pot ≤ max_cents)) (take_all _ _ c.loop-row-test.false) c.loop-row.invariant
+returns g c = subst (AllByRecursion (λ x. g.T.Weighed.holds x + c.args.pot ≤ max_cents)) (take_all _ _ c.loop-row-test.false) c.loop-row.invariant

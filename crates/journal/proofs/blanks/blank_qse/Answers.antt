@@ -4,4 +4,4 @@ use Rattle.journal.proofs.Zeros.{nine_zeros}
 use Rattle.journal.proofs.blanks.blank_qse.Goals as goal
 
 pub invariant_of-side : goal.invariant_of-side
-invariant_of-side c = ((omega arith, nine_zeros), (omega (arith, ints), omega (arith, ints)))
+invariant_of-side c = record { powers = (omega arith, nine_zeros); stored = (omega (arith, ints), omega (arith, ints)) }

@@ -1,5 +1,5 @@
 use Rattle.std.proofs.Common.{◌≤◌, refl, ap, subst, arith}
-use Rattle.std.specs.List.{AllByRecursion as All}
+use Rattle.std.specs.List.{AllByRecursion}
 use Rattle.std.proofs.ByRecursion.{All-get_or, All-more}
 use Rattle.std.proofs.lemmas.List.{take_all}
 use Rattle.std.proofs.lemmas.Bool.{false≢true}
@@ -19,4 +19,4 @@ loop-row-preserved g c =
     (omega (arith, ap holds c.row-item.is, c.cents.ensures, c.if-cents-gt-LOW_CENTS.false))
 
 pub returns : goal.returns
-returns g c = ((λ _. subst (All (λ x. g.T.Weighed.holds x ≤ 999000000000)) (take_all _ _ c.loop-row-test.false) c.loop-row.invariant), λ _. refl)
+returns g c = ((λ _. subst (AllByRecursion (λ x. g.T.Weighed.holds x ≤ 999000000000)) (take_all _ _ c.loop-row-test.false) c.loop-row.invariant), λ _. refl)
