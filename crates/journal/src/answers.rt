@@ -53,17 +53,9 @@ pub(crate) fn say(out: &mut String, line: &Line, answer: Option<Answer>) -> Resu
         (Some(verb), Some(answer)) => {
             let word = verb.word();
             let said = Said(answer);
-            grown(writeln!(out, "{number} {word} {said}"))
+            writeln!(out, "{number} {word} {said}")
         }
-        _ => grown(writeln!(out, "{number} unreadable")),
-    }
-}
-
-// A text that is written to can only want memory.
-pub(crate) fn grown(written: fmt::Result) -> Result<(), AllocError> {
-    match written {
-        Ok(()) => Ok(()),
-        Err(_) => Err(AllocError),
+        _ => writeln!(out, "{number} unreadable"),
     }
 }
 

@@ -1,5 +1,4 @@
 // The last lines: what stands in the book.
-use super::answers::grown;
 use super::desk::Desk;
 use book::books::Counts;
 use replay::calls::AnyBook;
@@ -35,7 +34,7 @@ pub(crate) fn say_closing(out: &mut String, desk: &Desk, book: &AnyBook) -> Resu
     say_loads(out, desk.loads.as_slice(), held.counts.loads)?;
     let made = held.made;
     let outstanding = held.outstanding;
-    grown(writeln!(out, "claims made {made} outstanding {outstanding}"))
+    writeln!(out, "claims made {made} outstanding {outstanding}")
 }
 
 fn say_qses(out: &mut String, rows: &[QseRow], count: usize) -> Result<(), AllocError> {
@@ -43,7 +42,7 @@ fn say_qses(out: &mut String, rows: &[QseRow], count: usize) -> Result<(), Alloc
         let number = row.number;
         let shortfall = row.shortfall;
         let cents = row.cents;
-        grown(writeln!(out, "qse {number} shortfall {shortfall} cents {cents}"))?;
+        writeln!(out, "qse {number} shortfall {shortfall} cents {cents}")?;
     }
     Ok(())
 }
@@ -54,7 +53,7 @@ fn say_loads(out: &mut String, rows: &[LoadRow], count: usize) -> Result<(), All
         let point = row.point;
         let kwh = row.kwh;
         let cents = row.cents;
-        grown(writeln!(out, "load {qse} {point} {kwh} cents {cents}"))?;
+        writeln!(out, "load {qse} {point} {kwh} cents {cents}")?;
     }
     Ok(())
 }
