@@ -1,5 +1,5 @@
 -- The figures of limited rows are bounded.
-use Rattle.std.proofs.Common.{◌≡◌, ℕ, zero, suc, ◌+◌, ◌-◌, ◌*◌, ◌<◌, ◌≤◌, Bool, true, false, cond, ◌&&◌, eqb, List, [], ◌∷◌, map, length, get_or, ℤ, pos, negsuc, ◌+ℤ◌, ◌-ℤ◌, ◌≤ℤ◌, sum_by, filter, sym, refl, ap, ◌∙◌, subst, zero-le, arith, eqb-true}
+use Rattle.std.proofs.Common.{◌≡◌, ℕ, zero, suc, ◌+◌, ◌-◌, ◌*◌, ◌<◌, ◌≤◌, Bool, true, false, cond, ◌&&◌, eqb, List, [], ◌∷◌, map, length, get_or, ℤ, pos, negsuc, ◌+ℤ◌, ◌-ℤ◌, ◌≤ℤ◌, sum_by, filter, sym, refl, ap, ◌∙◌, zero-le, arith, eqb-true}
 use borrow.Author.Differences.{up, down, ints}
 use Rattle.std.proofs.lemmas.List.Sums.{sum_by-cons}
 use Rattle.rows.specs.Codes.{traded_sub}
@@ -12,7 +12,7 @@ use Rattle.rows.specs.declared.load.LoadRow.{LoadRow}
 use Rattle.rows.specs.declared.resource.ResourceRow.{ResourceRow}
 use Rattle.rows.specs.declared.trade.TradeRow.{TradeRow}
 use Rattle.account.specs.View.{View, zeros, add, with_lines, Line, nine, over, counted}
-use Rattle.account.specs.Own.{Own, own_of, owns_load, view_on, net_of, position_of, moved_of, figures_on, import_side, on_side, party_of}
+use Rattle.account.specs.Own.{Own, own_of, owns_load, view_on, position_of, moved_of, figures_on, on_side, party_of}
 use Rattle.account.specs.Account.{load_in, plain_rows}
 use Rattle.account.specs.Within.{Within}
 use Rattle.account.specs.declared.party.Party.{Party}

@@ -1,5 +1,5 @@
 -- The parts of a line, from the capabilities as the code holds them.
-use Rattle.std.proofs.Common.{◌≡◌, ℕ, ◌<◌, min, cond, List, [], ◌∷◌, get_or, sym, refl, ap, ◌∙◌, arith}
+use Rattle.std.proofs.Common.{◌≡◌, ℕ, ◌<◌, min, cond, List, [], ◌∷◌, get_or, refl, ap, ◌∙◌, arith}
 use Rattle.std.specs.List.{AllByRecursion}
 use Rattle.rows.specs.Rows.{PlainSide}
 use Rattle.rows.specs.declared.codes.Kind.{Kind}

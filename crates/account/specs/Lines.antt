@@ -1,5 +1,5 @@
 -- The line of a resource on a side.
-use Rattle.std.specs.Prelude.{◌≡◌, ℕ, ◌<◌, min, Bool, true, false, cond, ◌||◌, List, map, ℤ, pos, ◌-ℤ◌, nat_lt, slice_index}
+use Rattle.std.specs.Prelude.{ℕ, min, Bool, true, false, cond, ◌||◌, List, map, ℤ, pos, ◌-ℤ◌, nat_lt, slice_index}
 use Rattle.rows.specs.Codes.{is_renewable}
 use Rattle.rows.specs.Rows.{PlainSide, PlainResource}
 use Rattle.rows.specs.declared.codes.Kind.{Kind}

@@ -1,5 +1,5 @@
 -- Bounds of the figures of n accounts together.
-use Rattle.std.specs.Prelude.{ℕ, ◌*◌, ◌≤◌, ℤ, pos, ◌+ℤ◌, ◌≤ℤ◌}
+use Rattle.std.specs.Prelude.{ℕ, ◌*◌, ◌≤◌, pos, ◌+ℤ◌, ◌≤ℤ◌}
 use Rattle.account.specs.View.{View, counted, over, nine}
 
 -- for each account: 512 loads of 1,000,000 kWh; a sale and 512 trades of 10,000,000 kW; a storage net; nine positions

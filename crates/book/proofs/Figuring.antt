@@ -1,5 +1,5 @@
 -- The figures of a QSE replaced.
-use Rattle.std.proofs.Common.{◌≡◌, ℕ, zero, suc, ◌<◌, Bool, true, false, cond, eqb, List, [], ◌∷◌, ◌++◌, map, length, get_or, take, drop, set, sym, refl, ap, ◌∙◌, subst, arith, eq-eqb}
+use Rattle.std.proofs.Common.{◌≡◌, ℕ, zero, suc, List, [], ◌∷◌, ◌++◌, map, get_or, take, drop, set, sym, refl, ap, ◌∙◌, arith, eq-eqb}
 use borrow.Author.Tests.{apart_eqb}
 use Rattle.rows.specs.Rows.{PlainQse, PlainFigures, plain_qse}
 use Rattle.rows.specs.declared.qse.QseRow.{QseRow}

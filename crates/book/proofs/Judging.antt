@@ -1,19 +1,18 @@
 -- What the tests of a call say of its causes.
-use Rattle.std.proofs.Common.{◌≡◌, ℕ, zero, suc, ◌-◌, ◌<◌, ◌≤◌, Bool, true, false, ◌⊎◌, List, [], ◌∷◌, map, length, take, ℤ, Decides, sym, refl, ap, ◌∙◌, subst, inl, inr, arith}
+use Rattle.std.proofs.Common.{◌≡◌, ℕ, zero, suc, ◌-◌, ◌<◌, ◌≤◌, Bool, true, false, List, [], ◌∷◌, map, length, take, ℤ, Decides, sym, refl, ap, ◌∙◌, subst, inl, inr, arith}
 use Rattle.std.proofs.lemmas.List.{length-map}
 use Rattle.std.proofs.lemmas.Bool.{false≢true, cases_lt}
 use Rattle.rows.specs.Rows.{plain_qse, plain_load, plain_resource, plain_trade}
-use Rattle.rows.specs.declared.fault.Fault.{Fault}
 use Rattle.rows.specs.declared.fault.Fault.TheVariants.{BrokenTable, WrongLength, OutOfLimits, NotEnrolled, AlreadyEnrolled, BuyerIsSeller, NoPlace, NoSuchTrade, CoverTooShort, TotalTooHigh, ClaimsUsedUp, ForeignClaim, NoLoad, ClaimOutstanding}
 use Rattle.rows.specs.declared.load.LoadRow.{LoadRow}
 use Rattle.rows.specs.declared.qse.QseRow.{QseRow}
 use Rattle.rows.specs.declared.resource.ResourceRow.{ResourceRow}
 use Rattle.rows.specs.declared.trade.TradeRow.{TradeRow}
-use Rattle.entry.specs.Keeps.{AllKept, Refused, Within}
+use Rattle.entry.specs.Keeps.{AllKept, Within}
 use Rattle.entry.specs.declared.form.Form.{Form}
 use Rattle.shortfall.specs.Pool.{Among, numbers}
 use Rattle.book.specs.State.{Book, State, state_of, qse_rows}
-use Rattle.book.specs.Causes.{BrokenBy, Broken, broken, listed, outside, unenrolled, unpartied, already, same_party, full, Absent, Enrolled, Earliest}
+use Rattle.book.specs.Causes.{BrokenBy, Broken, broken, listed, outside, unenrolled, unpartied, already, same_party, full, Absent, Earliest}
 use Rattle.book.proofs.Enrolling.{among_place}
 
 module _ (b : Book) (qs : List QseRow) (ls : List LoadRow) (rs : List ResourceRow) (ts : List TradeRow) where

@@ -1,5 +1,5 @@
 -- A trade made void.
-use Rattle.std.proofs.Common.{◌≡◌, ℕ, zero, suc, ◌<◌, false, List, [], ◌∷◌, map, length, get_or, set, refl, ap, arith}
+use Rattle.std.proofs.Common.{◌≡◌, ℕ, zero, suc, ◌<◌, List, [], ◌∷◌, map, length, get_or, set, refl, ap, arith}
 use Rattle.rows.specs.Rows.{PlainTrade, plain_trade}
 use Rattle.rows.specs.declared.trade.TradeRow.{TradeRow}
 use Rattle.book.specs.Entries.{void_at, voided}

@@ -1,11 +1,9 @@
 -- The causes of refusal. A call is judged by its causes in the order of their numbers, and the first that applies is returned.
-use Rattle.std.specs.Prelude.{◌≡◌, ℕ, ◌+◌, ◌<◌, ◌≤◌, true, false, ◌⊎◌, List, [], ◌∷◌, length, ℤ, pos, Some, None, Option, ◌≢◌, slice_index, slice_index_or}
-use Rattle.rows.specs.Limits.{max_rows}
+use Rattle.std.specs.Prelude.{◌≡◌, ℕ, ◌<◌, ◌≤◌, true, ◌⊎◌, List, [], ◌∷◌, length, ℤ, Some, None, Option, ◌≢◌, slice_index, slice_index_or}
 use Rattle.rows.specs.declared.fault.Fault.{Fault}
 use Rattle.rows.specs.declared.fault.Fault.TheVariants.{BrokenTable, OutOfLimits, NotEnrolled, AlreadyEnrolled, BuyerIsSeller, NoPlace, NoSuchTrade, ClaimsUsedUp, ForeignClaim, ClaimOutstanding}
 use Rattle.entry.specs.Keeps.{Refused, Within}
 use Rattle.entry.specs.declared.form.Form.{Form}
-use Rattle.account.specs.View.{counted}
 use Rattle.shortfall.specs.Pool.{Among, numbers}
 use Rattle.book.specs.State.{State, qse_rows}
 

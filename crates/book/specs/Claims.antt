@@ -1,7 +1,7 @@
 -- What the calls about claims answer, and what they make of the book.
-use Rattle.std.specs.Prelude.{◌≡◌, ℕ, ◌+◌, ◌-◌, false, List, [], ◌∷◌, ℤ, pos, Ok, Err, Result}
+use Rattle.std.specs.Prelude.{◌≡◌, ℕ, ◌+◌, ◌-◌, false, [], ◌∷◌, ℤ, pos, Ok, Err, Result}
 use Rattle.rows.specs.declared.fault.Fault.{Fault}
-use Rattle.book.specs.State.{State, struck_book, open_book, with_book, with_claims, with_strike}
+use Rattle.book.specs.State.{State, open_book, with_book, with_claims, with_strike}
 use Rattle.book.specs.Causes.{Judged, Clear, broken, outside, claims_used, foreign, outstanding}
 use Rattle.book.specs.declared.books.Claim.{Claim}
 use Rattle.book.specs.declared.books.OpenBook.{OpenBook}

@@ -1,12 +1,11 @@
 -- A book and its tables as plain records, and what each granted call makes of them.
-use Rattle.std.specs.Prelude.{ℕ, ◌+◌, ◌-◌, Bool, true, false, List, ◌++◌, map, take, slice_set}
-use Rattle.rows.specs.Rows.{PlainQse, PlainFigures, PlainLoad, PlainResource, PlainTrade, plain_qse, plain_load, plain_resource, plain_trade}
+use Rattle.std.specs.Prelude.{ℕ, ◌+◌, Bool, true, false, List, map, take, slice_set}
+use Rattle.rows.specs.Rows.{PlainQse, PlainLoad, PlainResource, PlainTrade, plain_qse, plain_load, plain_resource, plain_trade}
 use Rattle.rows.specs.declared.load.LoadRow.{LoadRow}
 use Rattle.rows.specs.declared.qse.QseRow.{QseRow}
 use Rattle.rows.specs.declared.resource.ResourceRow.{ResourceRow}
 use Rattle.rows.specs.declared.trade.TradeRow.{TradeRow}
 use Rattle.account.specs.Own.{PlainTables}
-use Rattle.book.specs.declared.books.Claim.{Claim}
 use Rattle.book.specs.declared.books.OpenBook.{OpenBook}
 use Rattle.book.specs.declared.books.StruckBook.{StruckBook}
 

@@ -1,7 +1,7 @@
 // Accounts of one QSE whose covers are known.
 use account::account::{Account, Tables};
 use cover::covering::cover;
-use cover::least::least_uncovered;
+use cover::uncovered::least_uncovered;
 use entry::figures::figures_row;
 use entry::resource::resource_row;
 use measure::grouped_parts::break_down;

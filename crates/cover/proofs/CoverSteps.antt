@@ -1,25 +1,25 @@
 -- The cover, line after line: the lines done are served, and those to do, with the budget, cover what is left.
-use Rattle.std.proofs.Common.{◌≡◌, ℕ, zero, suc, ◌+◌, ◌-◌, ◌*◌, ◌/◌, ◌%◌, ◌<◌, ◌≤◌, min, max, Bool, true, false, cond, not, T, ltb, ◌⊎◌, List, [], ◌∷◌, ◌++◌, map, length, get_or, take, drop, set, filter, sym, refl, ap, ◌∙◌, subst, inl, inr, ⊎_elim, add-one, arith, lit<, le→leb, length-append, length-set, take_all, drop-cons, take-suc, take-suc-set, drop-set-lt}
+use Rattle.std.proofs.Common.{◌≡◌, ℕ, zero, suc, ◌+◌, ◌-◌, ◌/◌, ◌%◌, ◌<◌, ◌≤◌, min, Bool, true, false, cond, ltb, List, [], ◌∷◌, ◌++◌, map, length, get_or, take, drop, set, filter, sym, refl, ap, ◌∙◌, subst, ⊎_elim, add-one, arith, lit<, le→leb, length-append, length-set, take_all, drop-cons, take-suc, take-suc-set, drop-set-lt}
 use lib.ListN.{length-map}
 use lib.Seq.{drop-length}
 use Rattle.std.proofs.lemmas.Bool.{cases_lt}
 use Rattle.rows.specs.Rows.{plain_resource}
 use Rattle.rows.specs.declared.resource.ResourceRow.{ResourceRow}
-use Rattle.account.specs.View.{View, Line}
+use Rattle.account.specs.View.{View}
 use Rattle.account.specs.Lines.{line_of, lines_on}
 use Rattle.account.specs.Own.{owns_resource}
 use Rattle.account.specs.Account.{account_view, IsLine}
 use Rattle.account.specs.declared.account.Account.{Account}
 use Rattle.account.specs.declared.line.Line.{Line as LineRow}
-use Rattle.least.specs.Sources.{Set, sum_in, Source, reach, reach_all, Closed, Hall}
-use Rattle.least.specs.Cover.{sum_below, Amounts, taken, Fits, FitsAll, got, got_all, Cover, uncovered, greatest_lack, Pair}
+use Rattle.least.specs.Sources.{Set, sum_in, Source, reach, reach_all, Hall}
+use Rattle.least.specs.Cover.{sum_below, Amounts, taken, Fits, FitsAll, got, got_all, Cover, greatest_lack, Pair}
 use Rattle.least.specs.Chains.{mem}
 use Rattle.least.proofs.Base.{cond_yes}
 use Rattle.least.proofs.Duality.{sum_below_add, sum_below_cong, budget, some_or_none}
-use Rattle.least.proofs.Nine.{lack_all, pair_trans, pair_refl, duality}
+use Rattle.least.proofs.Nine.{lack_all, pair_trans, pair_refl}
 use Rattle.cover.specs.Sets.{sum_to, lack_to, Under}
 use Rattle.cover.specs.Amounts.{at, source_by, Table, amounts_of, amounts_all, Served}
-use Rattle.least.specs.SubType.{source, sources, demand, reserve, LeastUncovered}
+use Rattle.least.specs.SubType.{source, sources, demand, LeastUncovered}
 use Rattle.cover.specs.Covered.{CoveredBy}
 use Rattle.cover.proofs.SetSums.{sum_same}
 use Rattle.cover.proofs.ReachSums.{under_all, lack_is, reserve_is, least_is}

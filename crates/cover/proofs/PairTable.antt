@@ -1,8 +1,8 @@
 -- The fourteen pairs by number, and the amounts of a row.
-use Rattle.std.proofs.Common.{◌≡◌, ℕ, zero, suc, ◌+◌, ◌-◌, ◌<◌, ◌≤◌, Bool, true, false, cond, T, eqb, List, [], ◌∷◌, length, get_or, set, sym, refl, ap, ◌∙◌, subst, arith, lit<}
+use Rattle.std.proofs.Common.{◌≡◌, ℕ, zero, suc, ◌+◌, ◌<◌, Bool, true, false, cond, T, eqb, List, [], ◌∷◌, length, get_or, set, sym, refl, ap, ◌∙◌, subst, arith, lit<}
 use mathlib.Core.Path.{fun_ext}
 use Rattle.least.specs.Sources.{hit}
-use Rattle.least.specs.Cover.{Amounts, pairs, Pair}
+use Rattle.least.specs.Cover.{pairs, Pair}
 use Rattle.least.proofs.Duality.{more}
 use Rattle.least.proofs.Chains.{AllAt, from_all}
 use Rattle.cover.specs.Amounts.{amounts_by, amounts_of, cap_at, pos_at}

@@ -1,10 +1,10 @@
 -- One line served, pair after pair.
-use Rattle.std.proofs.Common.{◌≡◌, ℕ, zero, suc, ◌+◌, ◌-◌, ◌*◌, ◌<◌, ◌≤◌, min, Bool, true, false, cond, not, T, ◌≢◌, ◌⊎◌, List, [], ◌∷◌, length, get_or, set, sym, refl, ap, ◌∙◌, subst, inl, inr, ⊎_elim, arith, length-set, get_or-set_other}
+use Rattle.std.proofs.Common.{◌≡◌, ℕ, zero, suc, ◌+◌, ◌-◌, ◌<◌, ◌≤◌, min, Bool, true, false, cond, not, T, ◌≢◌, List, [], ◌∷◌, length, get_or, set, sym, refl, ap, ◌∙◌, subst, inl, inr, ⊎_elim, arith, length-set, get_or-set_other}
 use mathlib.Core.Path.{fun_ext}
-use Rattle.least.specs.Sources.{Set, sum_in, Source, reach, reach_all, Closed, Hall, hit, low, give}
-use Rattle.least.specs.Cover.{sum_below, Amounts, taken, got, Fits, pairs, Pair}
+use Rattle.least.specs.Sources.{Set, sum_in, Source, reach, reach_all, Hall, hit, low, give}
+use Rattle.least.specs.Cover.{sum_below, Amounts, taken, got, pairs, Pair}
 use Rattle.least.specs.Chains.{mem}
-use Rattle.least.proofs.Base.{Below, Sub, reach_all_sub, hit_le}
+use Rattle.least.proofs.Base.{reach_all_sub, hit_le}
 use Rattle.least.proofs.Step.{spare, Cut, Cuts, Alike}
 use Rattle.least.proofs.Serve.{spare_alike}
 use Rattle.least.proofs.Duality.{sum_below_add, sum_below_cong, more, got_more, taken_more}

@@ -1,5 +1,5 @@
 -- The members of the closed sets as bits.
-use Rattle.std.proofs.Common.{◌≡◌, ℕ, zero, suc, ◌+◌, ◌/◌, ◌^◌, ◌<◌, Bool, true, eqb, List, [], ◌∷◌, get_or, sym, refl, ap, ◌∙◌, subst, arith}
+use Rattle.std.proofs.Common.{◌≡◌, ℕ, zero, suc, ◌+◌, ◌/◌, ◌^◌, ◌<◌, Bool, true, eqb, List, [], ◌∷◌, get_or, refl, ap, ◌∙◌, arith}
 use lib.Bits.{bit_and}
 use Rattle.least.specs.Chains.{mem}
 use Rattle.cover.specs.Sets.{mask_at}

@@ -1,8 +1,8 @@
 -- Sums over the closed sets: by the set with one member less, and with less at one place.
-use Rattle.std.proofs.Common.{◌≡◌, ℕ, zero, suc, ◌+◌, ◌-◌, ◌*◌, ◌/◌, ◌%◌, ◌<◌, ◌≤◌, min, max, Bool, true, false, cond, not, ◌&&◌, ◌||◌, T, eqb, ltb, leb, ◌≢◌, ◌⊎◌, List, [], ◌∷◌, length, get_or, set, replicate, sym, refl, ap, ◌∙◌, subst, inl, inr, ⊎_elim, add-one, arith, eqb→eq, get_or-set_other, get_or-set_same, ltb-true, eq-eqb}
+use Rattle.std.proofs.Common.{◌≡◌, ℕ, zero, suc, ◌+◌, ◌-◌, ◌*◌, ◌<◌, ◌≤◌, max, Bool, true, false, cond, not, ◌&&◌, ◌||◌, eqb, ltb, leb, ◌≢◌, List, length, get_or, set, replicate, sym, refl, ap, ◌∙◌, subst, ⊎_elim, add-one, arith, get_or-set_other, get_or-set_same, ltb-true, eq-eqb}
 use mathlib.Core.Path.{fun_ext}
 use borrow.Author.Tests.{apart_eqb}
-use Rattle.std.proofs.lemmas.Bool.{cases_eq, cases_lt, and_parts, not-true, eqb-true, true≢false, le-ltb, lt-leb, leb-true}
+use Rattle.std.proofs.lemmas.Bool.{cases_eq, cases_lt, and_parts, not-true, true≢false, le-ltb, lt-leb, leb-true}
 use Rattle.least.specs.Sources.{Set, sum_in, hit, low}
 use Rattle.least.specs.Cover.{sum_below, greatest}
 use Rattle.least.specs.Chains.{mem}

@@ -1,5 +1,5 @@
 -- The set with the greatest lack, found by going through all of them.
-use Rattle.std.proofs.Common.{◌≡◌, ℕ, ◌+◌, ◌-◌, ◌<◌, ◌≤◌, max, List, get_or, sym, refl, ap, ◌∙◌, arith, lit<}
+use Rattle.std.proofs.Common.{◌≡◌, ℕ, ◌+◌, ◌-◌, ◌<◌, ◌≤◌, max, List, get_or, sym, ap, ◌∙◌, arith, lit<}
 use Rattle.cover.specs.Sets.{sum_to, lack_to}
 use Rattle.cover.specs.Binding.{Worst}
 use Rattle.cover.proofs.SetSums.{lack_none, lack_more, sum_empty}

@@ -1,5 +1,5 @@
 -- Lines and amounts as the code holds them.
-use Rattle.std.specs.Prelude.{◌≡◌, ℕ, zero, suc, ◌+◌, ◌-◌, ◌<◌, ◌≤◌, min, List, [], ◌∷◌, length, slice_index, slice_index_or}
+use Rattle.std.specs.Prelude.{◌≡◌, ℕ, ◌+◌, ◌<◌, ◌≤◌, List, [], ◌∷◌, length, slice_index, slice_index_or}
 use Rattle.least.specs.Sources.{Source, reach, reach_all, Hall, hit}
 use Rattle.least.specs.Cover.{Amounts, Fits, got, pairs, Pair}
 use Rattle.least.specs.Chains.{mem}

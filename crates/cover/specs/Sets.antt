@@ -1,5 +1,5 @@
 -- The closed sets by number, what sums over them say, and the limit of a giving.
-use Rattle.std.specs.Prelude.{◌≡◌, ℕ, zero, suc, ◌+◌, ◌-◌, ◌^◌, ◌<◌, ◌≤◌, min, Bool, true, false, cond, ◌||◌, ◌⊎◌, List, [], ◌∷◌, ◌==◌, slice_index}
+use Rattle.std.specs.Prelude.{◌≡◌, ℕ, ◌+◌, ◌-◌, ◌^◌, ◌<◌, ◌≤◌, min, false, cond, ◌||◌, ◌⊎◌, List, [], ◌∷◌, ◌==◌, slice_index}
 use Rattle.least.specs.Sources.{sum_in}
 use Rattle.least.specs.Cover.{greatest}
 use Rattle.least.specs.Chains.{mem}

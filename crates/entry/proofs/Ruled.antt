@@ -1,5 +1,5 @@
 -- What the rules of a resource's places say of its row.
-use Rattle.std.proofs.Common.{◌≡◌, ℕ, ◌≤◌, true, false, eqb, List, ℤ, pos, ◌≤ℤ◌, sym, refl, ap, ◌∙◌, inl, inr, arith, w64, of_z}
+use Rattle.std.proofs.Common.{◌≡◌, ℕ, true, false, eqb, List, ℤ, pos, ◌≤ℤ◌, sym, refl, ap, ◌∙◌, inl, inr, arith, w64, of_z}
 use Rattle.std.proofs.lemmas.Int.{ints}
 use Rattle.std.proofs.lemmas.Bool.{both_ways}
 use borrow.Author.Tests.{clash}

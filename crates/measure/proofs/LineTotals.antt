@@ -1,9 +1,9 @@
 -- Totals over lines: a turn of the loop over rows, and the sum over an account's lines.
-use Rattle.std.proofs.Common.{◌≡◌, ℕ, ◌+◌, ◌<◌, ◌≤◌, min, Bool, true, false, cond, List, [], ◌∷◌, map, get_or, sum_by, filter, sym, refl, ap, ◌∙◌, arith}
+use Rattle.std.proofs.Common.{◌≡◌, ℕ, ◌<◌, ◌≤◌, min, true, false, cond, List, map, get_or, sum_by, filter, sym, ap, ◌∙◌, arith}
 use Rattle.std.specs.List.{AllByRecursion}
 use Rattle.rows.specs.Rows.{plain_resource}
 use Rattle.rows.specs.declared.resource.ResourceRow.{ResourceRow}
-use Rattle.account.specs.View.{View, Line, over}
+use Rattle.account.specs.View.{Line, over}
 use Rattle.account.specs.Lines.{line_of}
 use Rattle.account.specs.Own.{owns_resource}
 use Rattle.account.specs.Account.{account_view, IsLine}

@@ -2,7 +2,7 @@
 use Rattle.std.specs.Prelude.{ℕ, ◌+◌, ◌*◌, ◌≤◌, List, pos, ◌-ℤ◌, sum_by}
 use Rattle.std.proofs.Common.{arith}
 use Rattle.std.proofs.lemmas.Int.{ints}
-use Rattle.account.specs.View.{View, Line, nine, reg_up, reg_down, rrs, slow, up}
+use Rattle.account.specs.View.{View, nine, reg_up, reg_down, rrs, slow, up}
 use Rattle.account.specs.Within.{Within}
 use Rattle.account.proofs.Bounds.{counted_is}
 use Rattle.measure.specs.Laws.{Bound, Helped}

@@ -1,12 +1,12 @@
 -- Laws are kept by sums, maxima and differences: a measure built of these needs no argument of its own.
-use Rattle.std.specs.Prelude.{◌≡◌, ℕ, ◌+◌, ◌-◌, ◌*◌, ◌≤◌, min, max, List, [], ◌∷◌, ℤ, pos, ◌+ℤ◌, ◌-ℤ◌, sum_by, refl}
+use Rattle.std.specs.Prelude.{◌≡◌, ℕ, ◌+◌, ◌-◌, ◌*◌, ◌≤◌, max, List, [], ◌∷◌, ℤ, pos, ◌+ℤ◌, ◌-ℤ◌, sum_by, refl}
 use Rattle.std.proofs.Common.{zero-le, arith}
 use Rattle.std.proofs.lemmas.Int.{ints}
 use Rattle.std.proofs.lemmas.List.Sums.{sum_by-append, sum_by-cons}
 use Rattle.std.proofs.lemmas.List.Sorted.{sum_by-IsPermutation}
-use Rattle.account.specs.View.{View, Line, zeros, add, with_lines, counted, over}
+use Rattle.account.specs.View.{View, Line, zeros, add, with_lines, counted}
 use Rattle.account.proofs.Bounds.{counted_is, over_le}
-use Rattle.measure.specs.Laws.{Order, Pool, Help, Nothing, Higher, More, Helped}
+use Rattle.measure.specs.Laws.{Order, Pool, Help, Nothing, Higher, More}
 use Rattle.measure.specs.Levels.{asked, served, level}
 
 pub record Lawful (m : View → ℕ) : Type 0 where

@@ -1,5 +1,5 @@
 -- A purse emptied from its end.
-use Rattle.std.proofs.Common.{◌≡◌, ℕ, ◌+◌, ◌-◌, ◌<◌, true, List, [], ◌∷◌, ◌++◌, Some, None, sum_by, Option, sym, refl, ap, ◌∙◌, subst, arith}
+use Rattle.std.proofs.Common.{◌≡◌, ℕ, ◌-◌, ◌<◌, true, List, [], ◌∷◌, ◌++◌, Some, None, Option, sym, ◌∙◌, subst, arith}
 use Rattle.std.specs.List.{AllByRecursion}
 use Rattle.std.proofs.lemmas.List.Sums.{sum_by_push}
 use Rattle.std.proofs.lemmas.Bool.{false≢true}
@@ -10,7 +10,7 @@ use Rattle.rows.specs.declared.trade.TradeRow.{TradeRow}
 use Rattle.book.specs.State.{Book, State, with_book, with_claims}
 use Rattle.book.specs.declared.books.Claim.{Claim as Slip}
 use Rattle.replay.specs.Runs.{Desk, desk_of}
-use Rattle.replay.specs.Guarantee.{claims_at, claims_in, OfBook, Long, Holding}
+use Rattle.replay.specs.Guarantee.{claims_at, claims_in, OfBook, Holding}
 
 -- an empty place more holds no claim
 pub empty_push : (p : List (Option Slip)) → claims_in p ≡ 0 → claims_in (p ++ None ∷ []) ≡ 0

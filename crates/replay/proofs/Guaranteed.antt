@@ -1,37 +1,33 @@
 -- The guarantee over every run from an opening.
-use Rattle.std.proofs.Common.{◌≡◌, ℕ, zero, suc, ◌+◌, ◌-◌, ◌*◌, ◌/◌, ◌<◌, ◌≤◌, min, Bool, true, false, cond, ◌⊎◌, List, [], ◌∷◌, ◌++◌, map, length, get_or, take, ℤ, Some, None, Ok, Err, sum_by, filter, Result, sym, refl, ap, ◌∙◌, subst, inl, inr, arith}
-use Rattle.std.specs.List.{AllByRecursion}
+use Rattle.std.proofs.Common.{◌≡◌, ℕ, ◌+◌, ◌<◌, ◌≤◌, true, ◌⊎◌, List, [], ◌∷◌, ◌++◌, map, length, get_or, take, ℤ, Some, None, Ok, Err, sum_by, filter, Result, sym, refl, ap, ◌∙◌, subst, inl, inr, arith}
 use Rattle.std.proofs.lemmas.List.Elements.{filter-append}
 use Rattle.std.proofs.ByRecursion.{All-get_or}
 use Rattle.std.proofs.lemmas.List.{get_or-map, take_more_set, append-nil}
 use Rattle.std.proofs.lemmas.List.Sums.{get_or-le-sum_by}
-use Rattle.std.proofs.lemmas.Bool.{cases_lt, cases_Bool, cond-true, cond-false, false≢true}
+use Rattle.std.proofs.lemmas.Bool.{cases_lt, cases_Bool, cond-true, cond-false}
 use Rattle.rows.specs.Rows.{PlainQse, PlainResource}
 use Rattle.rows.specs.declared.fault.Fault.{Fault}
 use Rattle.account.specs.Own.{Own, own_of, owns_resource, qse_own}
 use Rattle.account.specs.View.{View, counted}
 use Rattle.account.proofs.Rows.{sum_map}
-use Rattle.division.specs.Division.{Divided, Fair}
-use Rattle.measure.specs.Laws.{Order, Pool, Help, Nothing}
-use Rattle.shortfall.specs.Pool.{owns, pool_shortfall, total}
+use Rattle.measure.specs.Laws.{Help}
 use Rattle.shortfall.specs.Shortfall.{shortfall_of, with_resource}
 use Rattle.shortfall.specs.Strike.{row_short, written}
 use Rattle.shortfall.proofs.Helps.{never_raised}
 use Rattle.shortfall.proofs.PoolCovered.{sum_covers_pool}
 use Rattle.book.specs.Charging.{Charges, pot_of, PaysQse, Charged as ChargedTo}
-use Rattle.book.specs.Entries.{Supplies, new_book}
-use Rattle.book.specs.Measuring.{Shorts, sum_short}
-use Rattle.book.specs.Owned.{own_rows, figures_in}
-use Rattle.book.specs.State.{State, qse_rows, load_rows, tables_of, add_resource}
+use Rattle.book.specs.Entries.{Supplies}
+use Rattle.book.specs.Measuring.{Shorts}
+use Rattle.book.specs.Owned.{own_rows}
+use Rattle.book.specs.State.{State, qse_rows, tables_of, add_resource}
 use Rattle.book.specs.declared.books.Claim.{Claim as Slip}
 use Rattle.replay.specs.declared.calls.Answer.{Answer}
-use Rattle.replay.specs.declared.calls.Answer.TheVariants.{NotAllowed, Refused, Granted, Placed, Shortfall, Uncovered, Total, Shared, Claimed, Charged}
-use Rattle.replay.specs.declared.calls.Call.{Call}
-use Rattle.replay.specs.declared.calls.Call.TheVariants.{Figures, Load, Resource, Trade, Enrol, Void, Short, Cover, Strike, Share, Claim, Charge, HandBack, Reopen}
+use Rattle.replay.specs.declared.calls.Answer.TheVariants.{Granted, Shortfall, Total, Charged}
+use Rattle.replay.specs.declared.calls.Call.TheVariants.{Resource, Short, Strike, Charge}
 use Rattle.replay.specs.declared.calls.Entry.{Entry}
-use Rattle.replay.specs.Runs.{Desk, Barred, Looks, Enters, Spends, Strikes, Step, Run, measure_at, struck_state, answer_by, spent_answer}
+use Rattle.replay.specs.Runs.{Desk, Looks, Enters, Spends, Strikes, Step, Run, measure_at, answer_by, spent_answer}
 use Rattle.replay.specs.Guarantee.{Struck, Lawful, no_strike, last_strike, short_of, sum_of, pool_of, row_at, ProRata, claims_in, Holding, After, Guarantee}
-use Rattle.replay.proofs.Kept.{Kept, Written, kept_opened, struck_rows_are, charged_rows, place_left}
+use Rattle.replay.proofs.Kept.{Kept, kept_opened, struck_rows_are, charged_rows, place_left}
 use Rattle.replay.proofs.Held.{held_opened, run_held}
 use Rattle.replay.proofs.Numbered.{figures_at}
 use Rattle.replay.proofs.Steps.{refused_same, run_kept}

@@ -1,25 +1,24 @@
 -- The claims in a purse that was empty at the opening are those outstanding.
-use Rattle.std.proofs.Common.{◌≡◌, ℕ, zero, suc, ◌+◌, ◌-◌, ◌<◌, ◌≤◌, Bool, true, false, ◌⊎◌, List, [], ◌∷◌, ◌++◌, map, length, get_or, take, drop, set, ℤ, Some, None, Ok, Err, sum_by, Option, Result, sym, refl, ap, ◌∙◌, subst, inl, inr, arith}
+use Rattle.std.proofs.Common.{◌≡◌, ℕ, zero, suc, ◌+◌, ◌-◌, ◌<◌, ◌≤◌, true, false, List, [], ◌∷◌, ◌++◌, map, length, get_or, take, drop, set, ℤ, Some, None, Ok, Err, sum_by, Option, Result, sym, refl, ap, ◌∙◌, subst, inl, inr, arith}
 use Rattle.std.specs.List.{AllByRecursion}
 use Rattle.std.proofs.ByRecursion.{All-set}
 use Rattle.std.proofs.lemmas.List.{length-set, length-append, length-take, length-take-le, length-map}
 use Rattle.std.proofs.lemmas.List.Sums.{sum_by-cons, sum_by-set}
 use Rattle.std.proofs.lemmas.Bool.{cases_lt, false≢true}
-use Rattle.rows.specs.Rows.{PlainQse, PlainTrade}
+use Rattle.rows.specs.Rows.{PlainTrade}
 use Rattle.rows.specs.declared.fault.Fault.{Fault}
 use Rattle.rows.specs.declared.fault.Fault.TheVariants.{BrokenTable, ClaimOutstanding}
 use Rattle.account.specs.View.{View, counted}
 use Rattle.division.specs.Division.{Divided}
 use Rattle.shortfall.specs.Strike.{written}
-use Rattle.book.specs.Causes.{Absent, broken, outstanding}
+use Rattle.book.specs.Causes.{Absent, broken}
 use Rattle.book.specs.Charging.{Charges, PaysQse, PaysLoad}
 use Rattle.book.specs.Claims.{Claims, HandsBack}
 use Rattle.book.specs.Entries.{Enrols, Figured, Loads, Supplies, Trades, Voids, new_book, new_qse, refigured, void_at}
-use Rattle.book.specs.Measuring.{Covers}
-use Rattle.book.specs.State.{Book, State, qse_rows, tables_of, with_book, with_claims, with_strike}
+use Rattle.book.specs.State.{Book, State, qse_rows, tables_of, with_claims}
 use Rattle.book.specs.declared.books.Claim.{Claim as Slip}
 use Rattle.replay.specs.declared.calls.Answer.{Answer}
-use Rattle.replay.specs.declared.calls.Answer.TheVariants.{NotAllowed, Granted, Placed, Total, Uncovered, Claimed, Charged}
+use Rattle.replay.specs.declared.calls.Answer.TheVariants.{Granted, Placed, Total, Charged}
 use Rattle.replay.specs.declared.calls.Call.{Call}
 use Rattle.replay.specs.declared.calls.Call.TheVariants.{Figures, Load, Resource, Trade, Enrol, Void, Short, Cover, Strike, Share, Claim, Charge, HandBack, Reopen}
 use Rattle.replay.specs.declared.calls.Entry.{Entry}

@@ -1,30 +1,28 @@
 -- What every call keeps of a book that was opened.
-use Rattle.std.proofs.Common.{◌≡◌, ℕ, zero, suc, ◌+◌, ◌<◌, ◌≤◌, Bool, true, false, cond, eqb, ◌⊎◌, List, [], ◌∷◌, ◌++◌, map, length, get_or, take, drop, set, sum_by, sym, refl, ap, ◌∙◌, subst, inl, inr, ⊎_elim, arith}
+use Rattle.std.proofs.Common.{◌≡◌, ℕ, ◌+◌, ◌<◌, ◌≤◌, true, false, cond, eqb, List, [], ◌∷◌, ◌++◌, map, length, take, drop, sum_by, sym, refl, ap, ◌∙◌, subst, inl, inr, arith}
 use Rattle.std.specs.List.{AllByRecursion}
 use Rattle.std.proofs.ByRecursion.{All-push, All-weaker, All-map}
 use Rattle.std.proofs.lemmas.List.{take_more_set, map_push, length-map}
-use Rattle.std.proofs.lemmas.List.Sums.{sum_by_push, sum_by-cons}
+use Rattle.std.proofs.lemmas.List.Sums.{sum_by_push}
 use Rattle.std.proofs.lemmas.Bool.{cases_lt, false≢true}
 use Rattle.rows.specs.Rows.{PlainQse, PlainFigures, PlainLoad, PlainResource}
 use Rattle.rows.specs.declared.fault.Fault.TheVariants.{BrokenTable, NotEnrolled, AlreadyEnrolled, NoPlace}
 use Rattle.account.specs.Own.{PlainTables, qse_own}
 use Rattle.account.specs.View.{View}
 use Rattle.account.proofs.Rows.{sum_map}
-use Rattle.division.specs.Division.{Divided}
 use Rattle.shortfall.specs.Pool.{Among, Distinct, numbers, owns, total}
 use Rattle.shortfall.specs.Shortfall.{shortfall_of}
 use Rattle.shortfall.specs.Strike.{row_short, written}
 use Rattle.book.specs.Causes.{Absent, Enrolled, broken, unenrolled, already, full}
 use Rattle.book.specs.Charging.{Charged, PaysQse, PaysLoad}
 use Rattle.book.specs.Entries.{refigure, refigured, new_qse, new_book}
-use Rattle.book.specs.Measuring.{sum_short, struck_rows}
-use Rattle.book.specs.Owned.{no_figures}
-use Rattle.book.specs.State.{Book, State, qse_rows, load_rows, tables_of, add_qse, add_load, add_resource, add_trade, with_qses, with_trades, with_book, with_claims, with_strike}
+use Rattle.book.specs.Measuring.{sum_short}
+use Rattle.book.specs.State.{Book, State, qse_rows, load_rows, tables_of, add_qse, add_load, add_resource, with_qses, with_book, with_claims, with_strike}
 use Rattle.book.specs.declared.books.Claim.{Claim as Slip}
 use Rattle.replay.specs.Runs.{measure_at, struck_state}
-use Rattle.replay.specs.Guarantee.{Struck, no_strike}
+use Rattle.replay.specs.Guarantee.{Struck}
 use Rattle.replay.proofs.Numbered.{among_pushed, distinct_push, among_cases}
-use Rattle.replay.proofs.Tables.{map_same, map_twice, all_unmap, sum_agree, front_of, rest_kept, pot_put, bare_load, bare_qse, same_own, same_owns}
+use Rattle.replay.proofs.Tables.{map_same, map_twice, all_unmap, front_of, rest_kept, pot_put, bare_load, bare_qse, same_own, same_owns}
 
 -- the shortfalls in the rows are those of the rules under m, and sum to t
 pub record Written (m : View → ℕ) (t : ℕ) (s : State) : Type 0 where

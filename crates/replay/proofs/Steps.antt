@@ -1,5 +1,5 @@
 -- What a call keeps, whatever it is, and what a run keeps.
-use Rattle.std.proofs.Common.{◌≡◌, ℕ, ◌+◌, ◌<◌, Bool, true, false, ◌⊎◌, List, [], ◌∷◌, length, get_or, ℤ, Ok, Err, sum_by, Option, Result, sym, refl, ap, ◌∙◌, subst, inl, inr, arith}
+use Rattle.std.proofs.Common.{◌≡◌, ℕ, ◌+◌, true, false, List, [], ◌∷◌, ℤ, Ok, Err, Option, Result, sym, refl, ap, ◌∙◌, subst, inl, inr, arith}
 use Rattle.std.proofs.lemmas.List.Sums.{sum_by-cons}
 use Rattle.std.proofs.lemmas.Bool.{false≢true}
 use Rattle.rows.specs.declared.fault.Fault.{Fault}
@@ -9,10 +9,10 @@ use Rattle.book.specs.Charging.{Charges}
 use Rattle.book.specs.Claims.{Claims, HandsBack}
 use Rattle.book.specs.Entries.{Enrols, Figured, Loads, Supplies, Trades, Voids}
 use Rattle.book.specs.Measuring.{sum_short}
-use Rattle.book.specs.State.{State, qse_rows, load_rows, tables_of, with_book, with_claims}
+use Rattle.book.specs.State.{State}
 use Rattle.book.specs.declared.books.Claim.{Claim as Slip}
 use Rattle.replay.specs.declared.calls.Answer.{Answer}
-use Rattle.replay.specs.declared.calls.Answer.TheVariants.{NotAllowed, Refused, Granted, Placed, Shortfall, Uncovered, Total, Shared, Claimed, Charged}
+use Rattle.replay.specs.declared.calls.Answer.TheVariants.{Granted, Placed, Shortfall, Uncovered, Total, Shared, Claimed, Charged}
 use Rattle.replay.specs.declared.calls.Call.{Call}
 use Rattle.replay.specs.declared.calls.Call.TheVariants.{Figures, Load, Resource, Trade, Enrol, Void, Short, Cover, Strike, Share, Claim, Charge, HandBack, Reopen}
 use Rattle.replay.specs.declared.calls.Entry.{Entry}

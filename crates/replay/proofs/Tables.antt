@@ -1,12 +1,11 @@
 -- Lists of rows: maps that agree, sums over them, and what a division leaves as it was.
-use Rattle.std.proofs.Common.{◌≡◌, ℕ, zero, suc, ◌+◌, ◌<◌, ◌≤◌, Bool, true, false, cond, ◌⊎◌, List, [], ◌∷◌, ◌++◌, map, length, get_or, take, drop, sum_by, filter, sym, refl, ap, ◌∙◌, subst, inl, inr, arith}
+use Rattle.std.proofs.Common.{◌≡◌, ℕ, ◌+◌, ◌<◌, ◌≤◌, Bool, true, false, cond, List, [], ◌∷◌, ◌++◌, map, length, take, drop, sum_by, filter, sym, refl, ap, ◌∙◌, inl, inr, arith}
 use Rattle.std.specs.List.{AllByRecursion}
 use Rattle.std.proofs.lemmas.List.{same_lists, length-map, get_or-map, take_at, length-take-le}
 use Rattle.std.proofs.lemmas.List.Sums.{sum_by-cons}
 use Rattle.std.proofs.lemmas.Bool.{cases_lt}
 use Rattle.rows.specs.Rows.{PlainQse, PlainLoad, PlainResource, PlainTrade}
-use Rattle.account.specs.Own.{Own, PlainTables, own_of, qse_own, owns_load}
-use Rattle.account.specs.View.{View}
+use Rattle.account.specs.Own.{PlainTables, own_of, qse_own, owns_load}
 use Rattle.division.specs.Division.{Divided}
 use Rattle.shortfall.specs.Pool.{owns}
 

@@ -3,7 +3,7 @@ use Rattle.std.proofs.Common.{◌≡◌, ℕ, ◌+◌, ◌≤◌, List, [], ◌�
 use Rattle.std.proofs.lemmas.List.{length-map}
 use Rattle.rows.specs.declared.codes.Side.{Side}
 use Rattle.rows.specs.declared.qse.QseRow.{QseRow}
-use Rattle.account.specs.View.{View, zeros, add}
+use Rattle.account.specs.View.{View}
 use Rattle.rows.specs.Rows.{plain_qse}
 use Rattle.account.specs.Own.{qse_own, view_on}
 use Rattle.account.specs.Account.{plain_tables}

@@ -1,5 +1,5 @@
 -- One resource more never raises a shortfall, by the law Help.
-use Rattle.std.proofs.Common.{◌≡◌, ℕ, ◌≤◌, List, [], ◌∷◌, ◌++◌, map, ℤ, ◌≤ℤ◌, sym, refl, ap, subst, arith}
+use Rattle.std.proofs.Common.{◌≡◌, ℕ, List, [], ◌∷◌, ◌++◌, map, ℤ, ◌≤ℤ◌, sym, refl, ap, subst, arith}
 use borrow.Author.Differences.{ints}
 use Rattle.rows.specs.Rows.{PlainResource}
 use Rattle.rows.specs.declared.codes.Side.{Side}

@@ -1,5 +1,5 @@
 -- The sum of shortfalls is at least the pool's, by Order, Pool and Nothing.
-use Rattle.std.proofs.Common.{◌≡◌, ℕ, ◌+◌, ◌≤◌, max, List, [], ◌∷◌, ◌++◌, map, sum_by, sym, refl, ap, ◌∙◌, subst, zero-le, arith}
+use Rattle.std.proofs.Common.{◌≡◌, ℕ, ◌+◌, ◌≤◌, max, List, [], ◌∷◌, ◌++◌, sum_by, sym, refl, ap, subst, zero-le, arith}
 use Rattle.std.specs.List.Sorted.{IsPermutation}
 use Rattle.std.specs.List.{AllByRecursion}
 use Rattle.std.proofs.lemmas.List.Sums.{sum_by-cons}
@@ -11,7 +11,7 @@ use Rattle.account.specs.Lines.{line_of, lines_on}
 use Rattle.account.specs.Own.{Own, PlainTables, qse_own, view_on}
 use Rattle.measure.specs.Laws.{Order, Pool, Nothing}
 use Rattle.shortfall.specs.Shortfall.{shortfall_of}
-use Rattle.shortfall.specs.Pool.{joined, pool_view, pool_shortfall, total, owns, numbers, Among, Distinct, CoversPool}
+use Rattle.shortfall.specs.Pool.{joined, pool_shortfall, total, owns, numbers, Among, Distinct, CoversPool}
 use Rattle.shortfall.proofs.TableOrder.{table_order, blocks}
 
 abbrev greater : (View → ℕ) → Own → ℕ

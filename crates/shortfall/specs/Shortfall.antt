@@ -1,5 +1,5 @@
 -- The shortfall of a QSE, by its own rows alone.
-use Rattle.std.specs.Prelude.{ℕ, ◌-◌, ◌≤◌, max, List, [], ◌∷◌, ◌++◌}
+use Rattle.std.specs.Prelude.{ℕ, ◌-◌, ◌≤◌, max, [], ◌∷◌, ◌++◌}
 use Rattle.rows.specs.Rows.{PlainResource}
 use Rattle.rows.specs.declared.codes.Side.{Side}
 use Rattle.rows.specs.declared.codes.Side.TheVariants.{Snapshot, Adjusted}

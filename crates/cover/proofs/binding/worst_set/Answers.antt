@@ -1,5 +1,3 @@
-use Rattle.std.proofs.Common.{sym, ◌∙◌, arith}
-use Rattle.cover.specs.Binding.{Worst}
 use Rattle.cover.proofs.WorstSet.{worst_none, worst_here, worst_there, worst_as}
 use Rattle.cover.proofs.binding.worst_set.Goals as goal
 use Rattle.cover.proofs.binding.worst_set.Goals.{then-lack-most, else-lack-most}

@@ -1,4 +1,4 @@
-use Rattle.std.proofs.Common.{◌≡◌, ◌+◌, ◌≤◌, sym, refl, ap, ◌∙◌, arith, eq-eqb}
+use Rattle.std.proofs.Common.{refl, ◌∙◌, arith, eq-eqb}
 use borrow.Author.Tests.{apart_eqb}
 use Rattle.account.specs.Account.{account_view}
 use Rattle.account.proofs.Rows.{sum_turn, sum_all}

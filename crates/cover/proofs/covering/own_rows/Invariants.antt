@@ -1,4 +1,4 @@
-use Rattle.std.proofs.Common.{◌≡◌, ◌≤◌, cond, take, sum_by}
+use Rattle.std.proofs.Common.{◌≡◌, ◌≤◌, take, sum_by}
 use Rattle.measure.specs.Totals.{own_part}
 use Rattle.cover.proofs.covering.own_rows.Given as goal
 

@@ -1,4 +1,4 @@
-use Rattle.std.proofs.Common.{◌≡◌, sym, ap, ◌∙◌, subst, arith}
+use Rattle.std.proofs.Common.{arith}
 use Rattle.cover.proofs.ReachSums.{under_all}
 use Rattle.cover.proofs.covering.serve_line.Goals as goal
 

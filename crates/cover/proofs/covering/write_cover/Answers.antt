@@ -1,4 +1,4 @@
-use Rattle.std.proofs.Common.{◌≡◌, ℕ, ◌<◌, ◌≤◌, get_or, sym, ap, ◌∙◌, arith}
+use Rattle.std.proofs.Common.{◌≡◌, ℕ, ◌<◌, get_or, sym, ap, ◌∙◌, arith}
 use Rattle.account.specs.Account.{account_view}
 use Rattle.account.specs.View.{counted}
 use Rattle.least.specs.SubType.{demand}

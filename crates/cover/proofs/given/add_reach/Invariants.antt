@@ -1,4 +1,4 @@
-use Rattle.std.proofs.Common.{ℕ, ◌+◌, min, get_or}
+use Rattle.std.proofs.Common.{◌+◌, min, get_or}
 use Rattle.cover.specs.Sets.{sum_to}
 use Rattle.cover.proofs.SetSums.{Written}
 use Rattle.cover.proofs.given.add_reach.Given as goal

@@ -1,4 +1,4 @@
-use Rattle.std.proofs.Common.{◌≡◌, ℕ, ◌-◌, ◌≤◌, min, List, get_or, set, sym, refl, ap, ◌∙◌, subst, inl, arith}
+use Rattle.std.proofs.Common.{◌≡◌, ℕ, ◌-◌, ◌≤◌, min, List, get_or, set, sym, ap, ◌∙◌, subst, arith}
 use lib.Seq.{set-get_or}
 use Rattle.cover.specs.Sets.{LimitTo}
 use Rattle.cover.proofs.LimitSteps.{limit_zero}

@@ -1,6 +1,6 @@
-use Rattle.std.proofs.Common.{ℕ, ◌<◌, ◌≤◌, sym, refl, subst, arith, rules}
+use Rattle.std.proofs.Common.{ℕ, ◌<◌, sym, refl, subst, arith, rules}
 use Rattle.cover.proofs.PairTable.{pair_good}
-use Rattle.cover.proofs.ServedPairs.{Serving, serving_none, serving_next, served, zeros14}
+use Rattle.cover.proofs.ServedPairs.{serving_none, serving_next, served, zeros14}
 use Rattle.cover.proofs.giving.serve.Goals as goal
 
 pub loop-t-init : goal.loop-t-init

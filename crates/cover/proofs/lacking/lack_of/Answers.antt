@@ -1,4 +1,4 @@
-use Rattle.std.proofs.Common.{◌≤◌, arith}
+use Rattle.std.proofs.Common.{arith}
 use Rattle.cover.proofs.SetSums.{lack_none, lack_more, sum_under}
 use Rattle.cover.proofs.lacking.lack_of.Goals as goal
 

@@ -1,4 +1,4 @@
-use Rattle.std.proofs.Common.{◌≡◌, ℕ, ◌≤◌}
+use Rattle.std.proofs.Common.{◌≡◌, ◌≤◌}
 use Rattle.cover.specs.Sets.{lack_to}
 use Rattle.cover.proofs.lacking.lack_of.Given as goal
 

@@ -1,4 +1,4 @@
-use Rattle.std.proofs.Common.{sym, ap, ◌∙◌, subst, arith}
+use Rattle.std.proofs.Common.{sym, ◌∙◌, arith}
 use Rattle.cover.proofs.LimitSteps.{limit_none, limit_skip, limit_keep, limit_take, limit_end}
 use Rattle.cover.proofs.limits.limit.Goals as goal
 use Rattle.cover.proofs.limits.limit.Goals.{then-not-member+then-spare-d, then-not-member+else-spare-d, else-not-member}

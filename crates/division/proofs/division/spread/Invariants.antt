@@ -1,4 +1,4 @@
-use Rattle.std.proofs.Common.{◌≡◌, length, drop}
+use Rattle.std.proofs.Common.{◌≡◌, drop}
 use Rattle.division.specs.Division.{PaidUpto, upto}
 use Rattle.division.proofs.division.spread.Given as goal
 

@@ -1,4 +1,4 @@
-use Rattle.std.proofs.Common.{◌-◌, refl, ap, ◌∙◌, w64, SFits, rules}
+use Rattle.std.proofs.Common.{refl, ap, ◌∙◌, w64, SFits, rules}
 use Rattle.std.proofs.lemmas.Int.{to_z-of_z}
 use Rattle.entry.specs.Places.{at}
 use Rattle.entry.proofs.Kept.{keeps_when_within}

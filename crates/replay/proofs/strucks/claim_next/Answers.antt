@@ -1,4 +1,4 @@
-use Rattle.std.proofs.Common.{ℤ, Err, refl, inl, w64, SFits, rules}
+use Rattle.std.proofs.Common.{Err, refl, inl, w64, SFits, rules}
 use Rattle.std.proofs.lemmas.Int.{to_z-of_z}
 use Rattle.replay.specs.Runs.{Free}
 use Rattle.replay.proofs.strucks.claim_next.Goals as goal

@@ -1,4 +1,4 @@
-use Rattle.std.proofs.Common.{◌≡◌, ℕ, ◌+◌, map, sym, ◌∙◌, arith}
+use Rattle.std.proofs.Common.{ℕ, map, sym, ◌∙◌, arith}
 use Rattle.rows.specs.Rows.{plain_qse}
 use Rattle.rows.specs.declared.qse.QseRow.{QseRow}
 use Rattle.account.specs.Account.{plain_tables}

@@ -1,9 +1,7 @@
-use Rattle.std.proofs.Common.{◌≡◌, ℕ, ◌+◌, get_or, ℤ, pos, ◌+ℤ◌, ◌-ℤ◌, ap, ◌∙◌, arith, w64, SFits, to_z, of_z, rules}
+use Rattle.std.proofs.Common.{◌≡◌, ℕ, ◌+◌, get_or, pos, ◌+ℤ◌, ◌-ℤ◌, ap, ◌∙◌, arith, w64, SFits, to_z, of_z, rules}
 use Rattle.std.proofs.lemmas.Int.{ints, to_z-of_z}
-use Rattle.rows.specs.Rows.{plain_figures, plain_figures_side}
-use Rattle.account.specs.Own.{figures_on, moved_of, import_side}
-use Rattle.account.specs.Account.{account_own}
-use Rattle.account.specs.declared.party.Party.TheVariants.{Seller, Buyer}
+use Rattle.rows.specs.Rows.{plain_figures}
+use Rattle.account.specs.Own.{figures_on}
 use Rattle.account.proofs.account.Account.standing.Goals as goal
 
 net_same : (p s : ℕ) {b b' o o' i i' : ℕ} → b ≡ b' → o ≡ o' → i ≡ i' → pos p -ℤ pos s +ℤ pos b -ℤ pos o +ℤ pos i ≡ pos p -ℤ pos s +ℤ pos b' -ℤ pos o' +ℤ pos i'

@@ -1,4 +1,4 @@
-use Rattle.std.proofs.Common.{◌≡◌, ℕ, ◌+◌, ◌≤◌, ◌⊎◌, length, set, pos, nat_abs, sym, refl, ap, ◌∙◌, subst, inl, inr, arith, w64, SFits, to_z, of_z, rules}
+use Rattle.std.proofs.Common.{◌≡◌, ◌+◌, ◌≤◌, ◌⊎◌, length, set, pos, nat_abs, refl, ap, ◌∙◌, subst, inl, inr, arith, w64, SFits, to_z, of_z, rules}
 use Rattle.std.proofs.lemmas.List.{length-map, map-set}
 use Rattle.std.proofs.lemmas.Int.{to_z-of_z}
 use Rattle.rows.specs.Rows.{plain_qse}

@@ -1,4 +1,4 @@
-use Rattle.std.proofs.Common.{◌≡◌, ℕ, ◌+◌, ◌<◌, ◌≤◌, true, false, length, refl, ap, subst, inl, inr, arith}
+use Rattle.std.proofs.Common.{◌+◌, length, refl, ap, subst, inl, inr, arith}
 use Rattle.std.proofs.lemmas.List.{length-map, map-set}
 use Rattle.std.proofs.lemmas.Result.{err_from_is_err_and}
 use Rattle.rows.specs.declared.fault.Fault.TheVariants.{NotEnrolled}

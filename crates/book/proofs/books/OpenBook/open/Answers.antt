@@ -1,4 +1,4 @@
-use Rattle.std.proofs.Common.{◌≡◌, pos, refl, ap, inl, arith, w64, SFits, rules}
+use Rattle.std.proofs.Common.{pos, ap, inl, arith, w64, SFits, rules}
 use Rattle.std.proofs.lemmas.Int.{to_z-of_z}
 use Rattle.entry.proofs.Casts.{cast_back}
 use Rattle.account.specs.View.{counted}

@@ -1,13 +1,13 @@
-use Rattle.std.proofs.Common.{◌≡◌, ℕ, ◌+◌, ◌<◌, ◌≤◌, ◌⊎◌, length, sym, refl, ap, ◌∙◌, subst, inl, inr, arith}
+use Rattle.std.proofs.Common.{◌+◌, ◌≤◌, ◌⊎◌, length, sym, refl, ap, ◌∙◌, subst, inl, inr, arith}
 use Rattle.std.proofs.lemmas.List.{length-map, map-set}
 use Rattle.std.proofs.lemmas.Result.{err_from_is_err_and}
 use Rattle.rows.specs.Limits.{max_rows}
 use Rattle.rows.specs.Rows.{plain_trade}
-use Rattle.rows.specs.declared.fault.Fault.TheVariants.{NotEnrolled, BuyerIsSeller}
+use Rattle.rows.specs.declared.fault.Fault.TheVariants.{NotEnrolled}
 use Rattle.entry.specs.Places.{at}
 use Rattle.entry.specs.declared.form.Form.TheVariants.{Trade}
 use Rattle.account.specs.View.{counted}
-use Rattle.book.specs.Causes.{Absent, unpartied, same_party}
+use Rattle.book.specs.Causes.{Absent, unpartied}
 use Rattle.book.specs.State.{open_book, state_of, with_book, with_counts, with_trades}
 use Rattle.book.proofs.Judging.{table_broken, table_sound, not_both, both_among, nothing_refused, has_place, two_parties}
 use Rattle.book.proofs.books.OpenBook.trade.Goals as goal

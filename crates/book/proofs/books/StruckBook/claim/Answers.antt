@@ -1,7 +1,7 @@
-use Rattle.std.proofs.Common.{◌≡◌, pos, sym, refl, ap, ◌∙◌, inl, inr, arith, w64, SFits, rules}
+use Rattle.std.proofs.Common.{pos, refl, inl, inr, arith, w64, SFits, rules}
 use Rattle.std.proofs.lemmas.Int.{to_z-of_z}
 use Rattle.entry.proofs.Casts.{cast_back}
-use Rattle.book.specs.State.{struck_book, state_of}
+use Rattle.book.specs.State.{struck_book}
 use Rattle.book.proofs.Judging.{table_broken, table_sound, is_outside, not_outside}
 use Rattle.book.proofs.books.StruckBook.claim.Goals as goal
 

@@ -1,4 +1,4 @@
-use Rattle.std.proofs.Common.{◌≡◌, ℕ, ◌+◌, ◌<◌, ◌≤◌, min, length, get_or, sym, ap, ◌∙◌, arith}
+use Rattle.std.proofs.Common.{◌≡◌, ℕ, ◌+◌, ◌<◌, min, get_or, sym, ap, ◌∙◌, arith}
 use Rattle.measure.specs.Grouped.{supply}
 use Rattle.measure.proofs.LineTotals.{own_part_is, other_part}
 use Rattle.cover.specs.Sets.{sum_to}

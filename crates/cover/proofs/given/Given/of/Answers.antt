@@ -1,4 +1,4 @@
-use Rattle.std.proofs.Common.{◌≡◌, ℕ, ◌+◌, ◌*◌, ◌≤◌, refl, ◌∙◌, arith}
+use Rattle.std.proofs.Common.{ℕ, ◌+◌, ◌*◌, ◌≤◌, refl, ◌∙◌, arith}
 use Rattle.account.proofs.Rows.{sum_turn, sum_all}
 use Rattle.measure.specs.Grouped.{supply}
 use Rattle.measure.specs.Totals.{own_part}

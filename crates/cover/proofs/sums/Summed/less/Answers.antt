@@ -1,4 +1,4 @@
-use Rattle.std.proofs.Common.{◌≡◌, ℕ, ◌+◌, ◌-◌, ◌<◌, ◌≤◌, cond, List, length, get_or, sym, ap, ◌∙◌, subst, arith, length-set}
+use Rattle.std.proofs.Common.{◌≡◌, ℕ, ◌+◌, ◌-◌, ◌<◌, ◌≤◌, cond, length, get_or, sym, ap, ◌∙◌, subst, arith, length-set}
 use Rattle.least.specs.Chains.{mem}
 use Rattle.account.proofs.Arrays.{set_every}
 use Rattle.cover.proofs.SetSums.{Written, written_set, written_keep, sum_less}

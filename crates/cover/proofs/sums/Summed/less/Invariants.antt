@@ -1,4 +1,4 @@
-use Rattle.std.proofs.Common.{◌≡◌, ℕ, ◌-◌, ◌<◌, ◌≤◌, cond, length, get_or}
+use Rattle.std.proofs.Common.{◌≡◌, ◌-◌, cond, length, get_or}
 use Rattle.least.specs.Chains.{mem}
 use Rattle.cover.proofs.SetSums.{Written}
 use Rattle.cover.proofs.sums.Summed.less.Given as goal

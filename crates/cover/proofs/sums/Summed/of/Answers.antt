@@ -1,7 +1,6 @@
-use Rattle.std.proofs.Common.{◌≡◌, ℕ, ◌+◌, ◌-◌, ◌<◌, ◌≤◌, List, length, get_or, sym, refl, ap, ◌∙◌, subst, ⊎_elim, arith, rules}
-use Rattle.std.proofs.lemmas.Bool.{cases_lt}
-use Rattle.cover.specs.Sets.{start_at, sum_to}
-use Rattle.cover.proofs.SetSums.{starts_first, starts_order, starts_end, sums_more, sum_under, only_first}
+use Rattle.std.proofs.Common.{◌≡◌, refl, ap, arith, rules}
+use Rattle.cover.specs.Sets.{start_at}
+use Rattle.cover.proofs.SetSums.{starts_order, starts_end, sums_more, sum_under, only_first}
 use Rattle.cover.proofs.sums.Summed.of.Goals as goal
 
 pub loop-j-init : goal.loop-j-init

@@ -1,4 +1,4 @@
-use Rattle.std.proofs.Common.{◌≡◌, ◌+◌, ◌*◌, refl, ◌∙◌, arith}
+use Rattle.std.proofs.Common.{◌+◌, ◌*◌, refl, ◌∙◌, arith}
 use Rattle.measure.specs.Grouped.{supply}
 use Rattle.measure.specs.Levels.{served}
 use Rattle.measure.specs.Totals.{own_part}

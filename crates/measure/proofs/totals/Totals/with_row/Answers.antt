@@ -1,4 +1,4 @@
-use Rattle.std.proofs.Common.{◌≡◌, ◌+◌, sym, ap, ◌∙◌, arith}
+use Rattle.std.proofs.Common.{◌+◌, sym, ◌∙◌, arith}
 use Rattle.measure.specs.Grouped.{supply}
 use Rattle.measure.specs.Levels.{served}
 use Rattle.measure.proofs.LineTotals.{levels_same, served_is, own_part_is, other_part, at_most_more}

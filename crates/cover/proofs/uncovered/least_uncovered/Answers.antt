@@ -3,7 +3,7 @@ use Rattle.account.specs.Account.{account_view}
 use Rattle.account.specs.View.{counted}
 use Rattle.least.specs.SubType.{demand}
 use Rattle.cover.proofs.ReachSums.{reserve_is, least_is}
-use Rattle.cover.proofs.least.least_uncovered.Goals as goal
+use Rattle.cover.proofs.uncovered.least_uncovered.Goals as goal
 
 pub returns : goal.returns
 returns c =
