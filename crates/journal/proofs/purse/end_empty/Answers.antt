@@ -1,4 +1,4 @@
-use Rattle.std.proofs.Common.{◌≡◌, List, [], ◌∷◌, ◌++◌, vec_items, sym, ap, ◌∙◌}
+use Rattle.std.proofs.Common.{[], ◌∷◌, ◌++◌, vec_items, sym, ap, ◌∙◌}
 use Rattle.replay.specs.Guarantee.{claims_in}
 use Rattle.replay.proofs.Emptied.{empty_front, empty_last}
 use Rattle.journal.proofs.purse.end_empty.Goals as goal

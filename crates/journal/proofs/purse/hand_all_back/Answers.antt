@@ -1,4 +1,4 @@
-use Rattle.std.proofs.Common.{◌≡◌, List, [], ◌∷◌, ◌++◌, Some, None, vec_items, refl, ap, ◌∙◌, subst}
+use Rattle.std.proofs.Common.{[], ◌∷◌, ◌++◌, vec_items, refl, ap, ◌∙◌, subst}
 use Rattle.book.specs.State.{state_of, struck_book}
 use Rattle.replay.specs.Guarantee.{Holding}
 use Rattle.replay.specs.Runs.{desk_of}
