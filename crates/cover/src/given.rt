@@ -38,19 +38,21 @@ fn add_reach(reached: &mut [u64], room: u32, capability: &Summed)
 }
 
 impl Given {
-    // The row's line more, where the row is the account's; in place, since most rows are another's.
-    fn add_row(&mut self, a: &Account, row: &ResourceRow)
-        requires { Within self.old 20000000000 }
-        ensures value { AddsRow a.now self.old row.now self.new }
-        ensures small { (m : ℕ) → Within self.old m → Within self.new (m + 30000000) }
+    // The row's line more, where the row is the account's; most rows are another's.
+    fn with_row(self, a: &Account, row: &ResourceRow) -> Given
+        requires { Within self 20000000000 }
+        ensures value { AddsRow a.now self row.now result }
+        ensures small { (m : ℕ) → Within self m → Within result (m + 30000000) }
     {
         if !a.owns(row) {
-            return;
+            return self;
         }
         let line = Line::of(row, a.side);
-        add_reach(&mut self.reached, line.room, &capability_of(&line));
-        self.supply += u64::from(line.available) + u64::from(line.load_part);
-        self.offline += u64::from(line.offline);
+        let mut given = self;
+        add_reach(&mut given.reached, line.room, &capability_of(&line));
+        given.supply += u64::from(line.available) + u64::from(line.load_part);
+        given.offline += u64::from(line.offline);
+        given
     }
 
     // One pass over the resources, in which each line is derived once.
@@ -64,7 +66,7 @@ impl Given {
             offline: 0,
         };
         for row in a.resources {
-            given.add_row(a, row);
+            given = given.with_row(a, row);
         }
         given
     }
