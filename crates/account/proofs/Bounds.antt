@@ -85,8 +85,8 @@ counted_le : (e s b : ℕ) → counted (pos e +ℤ pos s -ℤ pos b) ≤ e + s
 counted_le e s b = omega (arith, ints, counted_is (pos e +ℤ pos s -ℤ pos b))
 
 entered_le : (side : Side) (f : Figures) (k : ℕ) → get_or (figures_on side (plain_figures f)).positions k 0 ≤ 10000000
-entered_le Snapshot f k = f.snapshot.powers.1 k
-entered_le Adjusted f k = f.adjusted.powers.1 k
+entered_le Snapshot f k = f.snapshot.positions.limits k
+entered_le Adjusted f k = f.adjusted.positions.limits k
 
 stored_ge : (side : Side) (f : Figures) → negsuc 9999999 ≤ℤ (figures_on side (plain_figures f)).storagenet
 stored_ge Snapshot f = f.snapshot.stored.0

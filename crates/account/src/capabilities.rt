@@ -3,16 +3,13 @@ ghost use Rattle.std.specs.Prelude.{◌≡◌};
 ghost use Rattle.rows.specs.Limits.{Powers};
 
 use super::line::Line;
+use std::array;
 
 impl Line {
     pub fn capabilities(&self) -> [u64; 9]
         ensures same { result ≡ self.now.capability }
         ensures small { Powers result }
     {
-        let mut found = [0; 9];
-        for k in 0..9 {
-            found[k] = u64::from(self.capability[k]);
-        }
-        found
+        array::from_fn(|k| u64::from(self.capability[k]))
     }
 }

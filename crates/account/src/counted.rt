@@ -3,11 +3,12 @@ ghost use Rattle.std.specs.Prelude.{◌≡◌, ℕ, ◌<◌, ◌≤◌, pos, sli
 ghost use Rattle.account.specs.View.{counted as countedOf};
 
 use super::standing::Standing;
+use std::array;
 
 pub fn not_below_zero(z: i64) -> u64
     ensures { result ≡ countedOf z }
 {
-    if z < 0 { 0 } else { z as u64 }
+    z.max(0) as u64
 }
 
 impl Standing {
@@ -16,10 +17,6 @@ impl Standing {
         ensures each { (k : ℕ) → k < 9 → slice_index result k ≡ countedOf (slice_index_or self.now.positions k (pos 0)) }
         ensures small { (k : ℕ) → slice_index result k ≤ 5130000000 }
     {
-        let mut found = [0; 9];
-        for k in 0..9 {
-            found[k] = not_below_zero(self.positions[k]);
-        }
-        found
+        array::from_fn(|k| not_below_zero(self.positions[k]))
     }
 }

@@ -5,11 +5,14 @@ ghost use Rattle.account.specs.Own.{figures_on, import_side};
 ghost use Rattle.account.specs.Account.{account_view, load_in, Stands};
 
 use super::account::Account;
+use super::moved::Moved;
 use super::party::Party;
 use super::standing::Standing;
 use rows::codes::Side;
 use rows::figures::{Figures, FiguresSide};
 use rows::load::LoadRow;
+use rows::reserves::Reserves;
+use std::array;
 
 fn figures_on(figures: &Figures, side: Side) -> &FiguresSide
     ensures { plain_figures_side result.now ≡ figures_on side (plain_figures figures.now) }
@@ -24,16 +27,7 @@ fn figures_on(figures: &Figures, side: Side) -> &FiguresSide
 fn import_side(figures: &Figures, side: Side) -> Side
     ensures { result ≡ import_side side (plain_figures figures.now) }
 {
-    match side {
-        Side::Snapshot => Side::Snapshot,
-        Side::Adjusted => {
-            if figures.tie {
-                Side::Snapshot
-            } else {
-                Side::Adjusted
-            }
-        }
-    }
+    if figures.tie { Side::Snapshot } else { side }
 }
 
 // The kWh of a load that is the QSE's; 0 for another's.
@@ -45,14 +39,12 @@ fn load_in(l: &LoadRow, qse: u16) -> u64
 }
 
 // Purchase less sale, bought less sold, and the import.
-fn balance(purchase: u32, sale: u32, bought: u64, sold: u64, dc_import: u32) -> i64
-    requires powers { (purchase ≤ 10000000) × ((sale ≤ 10000000) × (dc_import ≤ 10000000)) }
-    requires trades { (bought ≤ 5120000000) × (sold ≤ 5120000000) }
+fn balance(figures: &Figures, bought: &Moved, sold: &Moved, import: &FiguresSide) -> i64
     ensures near { (negsuc 5129999999 ≤ℤ result) × (result ≤ℤ pos 5140000000) }
-    ensures value { result ≡ pos purchase -ℤ pos sale +ℤ pos bought -ℤ pos sold +ℤ pos dc_import }
+    ensures value { result ≡ pos figures.now.purchase -ℤ pos figures.now.sale +ℤ pos (slice_index bought.now.kw 0) -ℤ pos (slice_index sold.now.kw 0) +ℤ pos import.now.dc_import }
 {
-    let plus = u64::from(purchase) + bought + u64::from(dc_import);
-    let minus = u64::from(sale) + sold;
+    let plus = u64::from(figures.purchase) + bought.kw[0] + u64::from(import.dc_import);
+    let minus = u64::from(figures.sale) + sold.kw[0];
     plus as i64 - minus as i64
 }
 
@@ -66,18 +58,11 @@ fn position(entered: u32, sold: u64, bought: u64) -> i64
 }
 
 // The nine positions; what is traded stands by the number of the sub-type, one beyond its place.
-fn positions(entered: &[u32; 9], sold: &[u64; 10], bought: &[u64; 10]) -> [i64; 9]
-    requires entered { (k : ℕ) → slice_index entered.now k ≤ 10000000 }
-    requires sold { (k : ℕ) → slice_index sold.now k ≤ 5120000000 }
-    requires bought { (k : ℕ) → slice_index bought.now k ≤ 5120000000 }
-    ensures each { (k : ℕ) → k < 9 → slice_index_or result k (pos 0) ≡ pos (slice_index entered.now k) +ℤ pos (slice_index sold.now (k + 1)) -ℤ pos (slice_index bought.now (k + 1)) }
+fn positions(entered: &Reserves, sold: &Moved, bought: &Moved) -> [i64; 9]
+    ensures each { (k : ℕ) → k < 9 → slice_index_or result k (pos 0) ≡ pos (slice_index entered.now.kw k) +ℤ pos (slice_index sold.now.kw (k + 1)) -ℤ pos (slice_index bought.now.kw (k + 1)) }
     ensures low { (k : ℕ) → slice_index_or result k (pos 0) ≤ℤ pos 5130000000 }
 {
-    let mut found = [0; 9];
-    for k in 0..9 {
-        found[k] = position(entered[k], sold[k + 1], bought[k + 1]);
-    }
-    found
+    array::from_fn(|k| position(entered.kw[k], sold.kw[k + 1], bought.kw[k + 1]))
 }
 
 impl Account<'_> {
@@ -100,19 +85,12 @@ impl Account<'_> {
         let own = figures_on(figures, self.side);
         let sold = self.traded(Party::Seller);
         let bought = self.traded(Party::Buyer);
-        let dc_import = figures_on(figures, import_side(figures, self.side)).dc_import;
-        let positions = positions(&own.positions, &sold, &bought);
+        let import = figures_on(figures, import_side(figures, self.side));
         Standing {
             load: self.load(),
-            net: balance(
-                figures.purchase,
-                figures.sale,
-                bought[0],
-                sold[0],
-                dc_import,
-            ),
+            net: balance(figures, &bought, &sold, import),
             storage_net: i64::from(own.storage_net),
-            positions,
+            positions: positions(&own.positions, &sold, &bought),
         }
     }
 }

@@ -2,12 +2,16 @@
 #![tactic(auto)]
 
 pub mod account;
+mod available;
 pub mod capabilities;
 pub mod counted;
 pub mod figures;
 pub mod line;
 pub mod lines;
+pub mod moved;
 pub mod owned;
+mod parts;
 pub mod party;
+mod plan;
 pub mod standing;
 pub mod trades;

@@ -5,6 +5,7 @@ ghost use Rattle.account.specs.Own.{on_side, party_of, moved_of};
 ghost use Rattle.account.specs.Account.{account_own, counts_for};
 
 use super::account::Account;
+use super::moved::Moved;
 use super::party::Party;
 use rows::codes::{Side, Sides};
 use rows::trade::TradeRow;
@@ -12,17 +13,10 @@ use rows::trade::TradeRow;
 fn on_side(sides: Sides, side: Side) -> bool
     ensures { result ≡ on_side side sides }
 {
-    match side {
-        Side::Snapshot => match sides {
-            Sides::SnapshotOnly => true,
-            Sides::AdjustedOnly => false,
-            Sides::Both => true,
-        },
-        Side::Adjusted => match sides {
-            Sides::SnapshotOnly => false,
-            Sides::AdjustedOnly => true,
-            Sides::Both => true,
-        },
+    match sides {
+        Sides::SnapshotOnly => side == Side::Snapshot,
+        Sides::AdjustedOnly => side == Side::Adjusted,
+        Sides::Both => true,
     }
 }
 
@@ -49,9 +43,8 @@ impl Account<'_> {
     }
 
     // What the QSE sold, or bought, by the number of the sub-type; capacity and energy stand at 0.
-    pub fn traded(&self, party: Party) -> [u64; 10]
-        ensures each { (s : ℕ) → s < 10 → slice_index result s ≡ moved_of party self.now.side (account_own self.now) s }
-        ensures small { (s : ℕ) → slice_index result s ≤ 5120000000 }
+    pub fn traded(&self, party: Party) -> Moved
+        ensures { (s : ℕ) → s < 10 → slice_index result.kw s ≡ moved_of party self.now.side (account_own self.now) s }
     {
         let mut sums = [0u64; 10];
         for t in self.trades {
@@ -63,6 +56,6 @@ impl Account<'_> {
             let s = t.traded.sub_type_number();
             sums[s] += kw;
         }
-        sums
+        Moved { kw: sums }
     }
 }

@@ -10,6 +10,7 @@ use rows::fault::Fault;
 use rows::figures::{Figures, FiguresSide};
 use rows::load::LoadRow;
 use rows::qse::QseRow;
+use rows::reserves::NO_RESERVES;
 use rows::resource::ResourceRow;
 use rows::trade::TradeRow;
 
@@ -24,7 +25,7 @@ fn new_row(number: u16) -> QseRow
     let side = FiguresSide {
         dc_import: 0,
         storage_net: 0,
-        positions: [0; 9],
+        positions: NO_RESERVES,
     };
     QseRow {
         number,

@@ -2,12 +2,13 @@
 use account::account::{Account, Tables};
 use cover::covering::cover;
 use cover::uncovered::least_uncovered;
-use entry::figures::figures_row;
+use entry::qse::qse_row;
 use entry::resource::resource_row;
 use measure::grouped_parts::break_down;
 use rows::codes::Side;
 use rows::fault::Fault;
 use rows::qse::QseRow;
+use rows::resource::ResourceRow;
 
 // a generator of 30 kW that can give PFR or UFR
 const BOTH_RRS: [i64; 67] = [
@@ -83,58 +84,38 @@ const ASK_NOTHING: [i64; 27] = [
     1, 0, 0, 0, 0, 0, 0, 0, 0, 0, 0, 0, 0, 0, 0, 0, 0, 0, 0, 0, 0, 0, 0, 0, 0, 0, 0,
 ];
 
-fn qse(list: &[i64]) -> Result<QseRow, Fault> {
-    let (number, figures) = figures_row(list)?;
-    if number == 0 {
-        return Err(Fault::NotEnrolled);
-    }
-    Ok(QseRow {
-        number,
-        figures,
-        shortfall: 0,
-        cents: 0,
-    })
+// The account at the snapshot of a QSE that has those units.
+fn account<'a>(row: &'a QseRow, units: &'a [ResourceRow]) -> Result<Account<'a>, Fault> {
+    let tables = Tables::new(&[], units, &[]).ok_or(Fault::NoPlace)?;
+    Ok(Account::new(row, Side::Snapshot, tables))
 }
 
-// The reserve parts of the grouped and of the sub-type edition at the snapshot.
-fn reserves<'a>(row: &'a QseRow, tables: Option<Tables<'a>>) -> Result<(u64, u64), Fault> {
-    match tables {
-        None => Err(Fault::NoPlace),
-        Some(tables) => {
-            let a = Account::new(row, Side::Snapshot, tables);
-            Ok((break_down(&a).reserve, least_uncovered(&a)))
-        }
-    }
+// The reserve parts of the grouped and of the sub-type edition.
+fn reserves(row: &QseRow, units: &[ResourceRow]) -> Result<(u64, u64), Fault> {
+    let a = account(row, units)?;
+    Ok((break_down(&a).reserve, least_uncovered(&a)))
 }
 
 fn none(list: &[i64]) -> Result<(u64, u64), Fault> {
-    let row = qse(list)?;
-    reserves(&row, Tables::new(&[], &[], &[]))
+    reserves(&qse_row(list)?, &[])
 }
 
 fn one(list: &[i64], unit: &[i64]) -> Result<(u64, u64), Fault> {
-    let row = qse(list)?;
-    let units = [resource_row(unit)?];
-    reserves(&row, Tables::new(&[], &units, &[]))
+    reserves(&qse_row(list)?, &[resource_row(unit)?])
 }
 
 fn two(list: &[i64], unit: &[i64], other: &[i64]) -> Result<(u64, u64), Fault> {
-    let row = qse(list)?;
-    let units = [resource_row(unit)?, resource_row(other)?];
-    reserves(&row, Tables::new(&[], &units, &[]))
+    reserves(
+        &qse_row(list)?,
+        &[resource_row(unit)?, resource_row(other)?],
+    )
 }
 
-// What a cover into those rows leaves uncovered, and the number of its refusal or 0.
-fn cover_into(list: &[i64], unit: &[i64], out: &mut [[u32; 14]]) -> Result<(u64, u8), Fault> {
-    let row = qse(list)?;
+// What a cover into those rows leaves uncovered.
+fn cover_into(list: &[i64], unit: &[i64], out: &mut [[u32; 14]]) -> Result<u64, Fault> {
+    let row = qse_row(list)?;
     let units = [resource_row(unit)?];
-    match Tables::new(&[], &units, &[]) {
-        None => Err(Fault::NoPlace),
-        Some(tables) => match cover(&Account::new(&row, Side::Snapshot, tables), out) {
-            Ok(left) => Ok((left, 0)),
-            Err(fault) => Ok((0, fault.number())),
-        },
-    }
+    cover(&account(&row, &units)?, out)
 }
 
 #[test]
@@ -170,13 +151,13 @@ fn odd_accounts_are_answered(rt: HostRuntime) {
 fn a_cover_wants_a_row_for_each_unit(rt: HostRuntime) {
     let mut none: [[u32; 14]; 0] = [];
     assert_eq!(rt;
-        cover_into(&ASK_PFR, &GENERATOR_PFR, &mut none).ok(),
-        Some((0, 9))
+        cover_into(&ASK_PFR, &GENERATOR_PFR, &mut none).map_err(Fault::number),
+        Err(9)
     );
     let mut rows = [[7u32; 14]; 2];
     assert_eq!(rt;
-        cover_into(&ASK_PFR, &GENERATOR_PFR, &mut rows).ok(),
-        Some((0, 0))
+        cover_into(&ASK_PFR, &GENERATOR_PFR, &mut rows).map_err(Fault::number),
+        Ok(0)
     );
     assert_eq!(rt; rows[0], [0, 0, 50, 0, 0, 0, 0, 0, 0, 0, 0, 0, 0, 0]);
     assert_eq!(rt; rows[1], [7; 14]);

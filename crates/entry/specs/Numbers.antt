@@ -4,6 +4,7 @@ use Rattle.rows.specs.Codes.{kind_number, status_number, traded_number, traded_s
 use Rattle.rows.specs.Rows.{PlainFiguresSide, PlainFigures, PlainLoad, PlainSide, PlainResource, PlainTrade}
 use Rattle.rows.specs.declared.fault.Fault.{Fault}
 use Rattle.rows.specs.declared.load.LoadRow.{LoadRow}
+use Rattle.rows.specs.declared.qse.QseRow.{QseRow}
 use Rattle.rows.specs.declared.trade.TradeRow.{TradeRow}
 
 abbrev pub mark : Bool → ℤ
@@ -39,3 +40,8 @@ Counting (Err e) = Unit {0}
 abbrev pub Uncharged : Result LoadRow Fault → Type 0
 Uncharged (Ok l) = l.cents ≡ 0
 Uncharged (Err e) = Unit {0}
+
+-- a new QSE row has neither shortfall nor cents
+abbrev pub Unmeasured : Result QseRow Fault → Type 0
+Unmeasured (Ok q) = (q.shortfall ≡ 0) × (q.cents ≡ 0)
+Unmeasured (Err e) = Unit {0}

@@ -10,10 +10,11 @@ use rows::fault::Fault;
 fn figure(list: &[i64], k: usize) -> i64
     ensures { result ≡ at list.now k }
 {
-    if k < list.len() { list[k] } else { 0 }
+    list.get(k).copied().unwrap_or(0)
 }
 
-fn within(x: i64, low: i64, high: i64) -> bool
+// Whether a number lies between the two, or is one of them.
+pub fn is_within(x: i64, low: i64, high: i64) -> bool
     ensures { Decides result (Within x low high) }
 {
     low <= x && x <= high
@@ -27,7 +28,7 @@ fn keeps(form: Form, list: &[i64], k: usize) -> bool
     let (low, high, rule) = form.place(k);
     let x = figure(list, k);
     let previous = figure(list, k.saturating_sub(1));
-    within(x, low, high) && rule.keeps(x, previous, figure(list, 1))
+    is_within(x, low, high) && rule.keeps(x, previous, figure(list, 1))
 }
 
 // Every number is kept, or the first that is not.
@@ -38,6 +39,7 @@ pub fn check(form: Form, list: &[i64]) -> Result<(), Fault>
     if list.len() != n {
         return Err(Fault::WrongLength);
     }
+    // over places and not numbers: each is judged with the number before it, and a search by `find` says no less
     for i in 0..n {
         if !keeps(form, list, i) {
             return Err(Fault::OutOfLimits {

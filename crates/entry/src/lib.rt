@@ -8,6 +8,7 @@ pub mod form;
 pub mod load;
 mod places;
 mod powers;
+pub mod qse;
 pub mod resource;
 mod rule;
 pub mod trade;

@@ -7,10 +7,10 @@ ghost use Rattle.entry.specs.Parts.{Fits};
 ghost use Rattle.entry.specs.Places.{resource_side};
 
 use super::checks::check;
-use super::codes::{kind_of, status_of};
 use super::form::Form;
 use super::places::{COP, OFFERED, QUALIFIED, RESOURCE_SIDE_SIZE};
 use super::powers::nine;
+use rows::codes::{Kind, Status};
 use rows::fault::Fault;
 use rows::resource::{ResourceRow, ResourceSide};
 
@@ -19,7 +19,7 @@ fn resource_side(list: &[i64]) -> ResourceSide
     ensures { side_numbers (plain_side result) ≡ list.now }
 {
     ResourceSide {
-        status: status_of(list[0]),
+        status: Status::try_from(list[0]).unwrap(),
         hsl: list[1] as u32,
         lsl: list[2] as i32,
         potential: list[3] as u32,
@@ -39,7 +39,7 @@ pub fn resource_row(list: &[i64]) -> Result<ResourceRow, Fault>
     let (snapshot, adjusted) = rest.split_at(RESOURCE_SIDE_SIZE);
     Ok(ResourceRow {
         qse: *qse as u16,
-        kind: kind_of(*kind),
+        kind: Kind::try_from(*kind).unwrap(),
         outage: *outage == 1,
         decommitted: *decommitted == 1,
         before: *before as u32,

@@ -3,20 +3,15 @@ ghost use Rattle.std.specs.Prelude.{Decides};
 ghost use Rattle.entry.specs.Rules.{Marked, ZeroUnless, Spans, TypedFor, RuleKept};
 
 use super::form::Rule;
+use rows::codes::Kind;
 
-// The kinds of resources that rules speak of, and the trade of a position.
-const RENEWABLE: i64 = 2;
-
-const STORAGE: i64 = 3;
-
-const LOAD_RESOURCE: i64 = 4;
-
+// The kind of a trade that moves a position.
 const POSITION: i64 = 3;
 
 fn marked(x: i64, kind: i64) -> bool
     ensures { Decides result (Marked x kind) }
 {
-    x == 0 || (kind != RENEWABLE && kind != LOAD_RESOURCE)
+    x == 0 || (kind != Kind::Renewable as i64 && kind != Kind::LoadResource as i64)
 }
 
 fn zero_unless(x: i64, y: i64, n: i64) -> bool
@@ -28,7 +23,7 @@ fn zero_unless(x: i64, y: i64, n: i64) -> bool
 fn spans(lsl: i64, hsl: i64, kind: i64) -> bool
     ensures { Decides result (Spans lsl hsl kind) }
 {
-    lsl <= hsl && (lsl >= 0 || kind == STORAGE)
+    lsl <= hsl && (lsl >= 0 || kind == Kind::Storage as i64)
 }
 
 fn typed_for(sub_type: i64, traded: i64) -> bool
@@ -47,7 +42,7 @@ impl Rule {
             Rule::Mark => marked(x, kind),
             Rule::Before => zero_unless(x, previous, 1),
             Rule::Lsl => spans(x, previous, kind),
-            Rule::Potential => zero_unless(x, kind, RENEWABLE),
+            Rule::Potential => zero_unless(x, kind, Kind::Renewable as i64),
             Rule::SubTyped => typed_for(x, previous),
         }
     }

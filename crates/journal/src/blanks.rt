@@ -3,6 +3,7 @@ use rows::codes::{Kind, Sides, Status, Traded};
 use rows::figures::{Figures, FiguresSide};
 use rows::load::LoadRow;
 use rows::qse::QseRow;
+use rows::reserves::NO_RESERVES;
 use rows::resource::{ResourceRow, ResourceSide};
 use rows::trade::TradeRow;
 
@@ -10,7 +11,7 @@ pub(crate) fn blank_qse() -> QseRow {
     let side = FiguresSide {
         dc_import: 0,
         storage_net: 0,
-        positions: [0; 9],
+        positions: NO_RESERVES,
     };
     QseRow {
         number: 1,
@@ -42,9 +43,9 @@ pub(crate) fn blank_resource() -> ResourceRow {
         hsl: 0,
         lsl: 0,
         potential: 0,
-        offered: [0; 9],
-        cop: [0; 9],
-        qualified: [0; 9],
+        offered: NO_RESERVES,
+        cop: NO_RESERVES,
+        qualified: NO_RESERVES,
     };
     ResourceRow {
         qse: 1,

@@ -1,0 +1,2 @@
+pub mod CodeRead
+pub mod FromFn

@@ -1,5 +1,5 @@
 -- The numbers by which codes are entered and refusals reported.
-use Rattle.std.specs.Prelude.{ℕ, Bool, true, false, Some, None, Option}
+use Rattle.std.specs.Prelude.{◌≡◌, ℕ, Bool, true, false, Some, None, Option, ℤ, pos, ◌≤ℤ◌, Ok, Err, Result}
 use Rattle.rows.specs.declared.fault.Fault.{Fault}
 use Rattle.rows.specs.declared.fault.Fault.TheVariants.{BrokenTable, WrongLength, OutOfLimits, NotEnrolled, AlreadyEnrolled, BuyerIsSeller, NoPlace, NoSuchTrade, CoverTooShort, TotalTooHigh, ClaimsUsedUp, ForeignClaim, NoLoad, ClaimOutstanding}
 use Rattle.rows.specs.declared.codes.Kind.{Kind}
@@ -8,6 +8,8 @@ use Rattle.rows.specs.declared.codes.Status.{Status}
 use Rattle.rows.specs.declared.codes.Status.TheVariants.{Absent, On, Off, OffQs}
 use Rattle.rows.specs.declared.codes.SubType.{SubType}
 use Rattle.rows.specs.declared.codes.SubType.TheVariants.{RegUp, RegDown, Pfr, Ufr, Ffr, Ecs, Ecm, Nss, Nsm}
+use Rattle.rows.specs.declared.codes.Side.{Side}
+use Rattle.rows.specs.declared.codes.Side.TheVariants.{Snapshot, Adjusted}
 use Rattle.rows.specs.declared.codes.Sides.{Sides}
 use Rattle.rows.specs.declared.codes.Sides.TheVariants.{SnapshotOnly, AdjustedOnly, Both}
 use Rattle.rows.specs.declared.codes.Traded.{Traded}
@@ -80,10 +82,19 @@ traded_sub Capacity = 0
 traded_sub Energy = 0
 traded_sub (Position s) = sub_number s
 
+abbrev pub side_number : Side → ℕ
+side_number Snapshot = 1
+side_number Adjusted = 2
+
 abbrev pub sides_number : Sides → ℕ
 sides_number SnapshotOnly = 1
 sides_number AdjustedOnly = 2
 sides_number Both = 3
+
+-- the code that has the number; where there is none, the number is not among those from low to high
+abbrev pub Reads : {C E : Type 0} → (C → ℕ) → ℕ → ℕ → ℤ → Result C E → Type 0
+Reads number low high x (Ok c) = pos (number c) ≡ x
+Reads number low high x (Err e) = (pos low ≤ℤ x) × (x ≤ℤ pos high) → ⊥
 
 abbrev pub is_renewable : Kind → Bool
 is_renewable Generation = false

@@ -26,7 +26,7 @@ pub record PlainFigures : Type 0 where
   pub adjusted : PlainFiguresSide
 
 abbrev pub plain_figures_side : FiguresSide → PlainFiguresSide
-plain_figures_side s = record { dcimport = s.dc_import; storagenet = s.storage_net; positions = s.positions }
+plain_figures_side s = record { dcimport = s.dc_import; storagenet = s.storage_net; positions = s.positions.kw }
 
 abbrev pub plain_figures : Figures → PlainFigures
 plain_figures f = record {
@@ -57,7 +57,7 @@ pub record PlainResource : Type 0 where
   pub adjusted : PlainSide
 
 abbrev pub plain_side : ResourceSide → PlainSide
-plain_side s = record { status = s.status; hsl = s.hsl; lsl = s.lsl; potential = s.potential; offered = s.offered; cop = s.cop; qualified = s.qualified }
+plain_side s = record { status = s.status; hsl = s.hsl; lsl = s.lsl; potential = s.potential; offered = s.offered.kw; cop = s.cop.kw; qualified = s.qualified.kw }
 
 abbrev pub plain_resource : ResourceRow → PlainResource
 plain_resource r = record {

@@ -1,5 +1,5 @@
 // Why a call is refused. `specs/Codes.antt` fixes the number of each case.
-#[derive(Clone, Copy)]
+#[derive(Clone, Copy, PartialEq, Eq)]
 pub enum Fault {
     // a table is shorter than its count, or holds what no call wrote
     BrokenTable,

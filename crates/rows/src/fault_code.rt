@@ -3,6 +3,7 @@ ghost use Rattle.std.specs.Prelude.{◌≡◌};
 ghost use Rattle.rows.specs.Codes.{fault_number, fault_place};
 
 use super::fault::Fault;
+use std::fmt;
 
 impl Fault {
     pub fn number(self) -> u8
@@ -33,6 +34,16 @@ impl Fault {
         match self {
             Fault::OutOfLimits { place } => Some(place),
             _ => None,
+        }
+    }
+}
+
+impl fmt::Display for Fault {
+    fn fmt<W: fmt::Write>(&self, f: &mut fmt::Formatter<W>) -> fmt::Result {
+        write!(f, "refused {}", self.number())?;
+        match self.place() {
+            Some(place) => write!(f, " place {place}"),
+            None => Ok(()),
         }
     }
 }

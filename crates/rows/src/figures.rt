@@ -1,15 +1,17 @@
 // What a QSE enters about itself.
 ghost use Rattle.std.specs.Prelude.{ℕ, ◌≤◌, ◌≤ℤ◌};
-ghost use Rattle.rows.specs.Limits.{max_power, lowest_power, highest_power, Powers};
+ghost use Rattle.rows.specs.Limits.{max_power, lowest_power, highest_power};
+
+use super::reserves::Reserves;
 
 // One side of the figures.
 #[derive(Clone, Copy)]
 pub struct FiguresSide {
     pub dc_import: u32,
     pub storage_net: i32,
-    // obligations by sub-type, in their order
-    pub positions: [u32; 9],
-    ghost powers: { (dc_import ≤ max_power) × Powers positions },
+    // obligations to hold reserves
+    pub positions: Reserves,
+    ghost powers: { dc_import ≤ max_power },
     ghost stored: { (lowest_power ≤ℤ storage_net) × (storage_net ≤ℤ highest_power) },
 }
 

@@ -8,6 +8,8 @@ pub mod figures;
 pub mod limits;
 pub mod load;
 pub mod qse;
+pub mod read;
+pub mod reserves;
 pub mod resource;
 pub mod sub_type;
 pub mod trade;

@@ -1,23 +1,24 @@
 // A resource of a QSE.
 ghost use Rattle.std.specs.Prelude.{◌≡◌, ℕ, ◌≤◌, true, false, pos, ◌≤ℤ◌};
 ghost use Rattle.rows.specs.Codes.{is_renewable, is_storage, is_unmarked};
-ghost use Rattle.rows.specs.Limits.{max_power, lowest_power, Powers};
+ghost use Rattle.rows.specs.Limits.{max_power, lowest_power};
 
 use super::codes::{Kind, Status};
+use super::reserves::Reserves;
 
 // The plan of the resource on one side: its high and low sustained limits (HSL, LSL), the power
-// that wind or sun could give, and for each sub-type what is offered, what the current operating
-// plan (COP) has, and what the unit is qualified for.
+// that wind or sun could give, and what of reserves is offered, stands in the current operating plan
+// (COP), and the unit is qualified for.
 #[derive(Clone, Copy)]
 pub struct ResourceSide {
     pub status: Status,
     pub hsl: u32,
     pub lsl: i32,
     pub potential: u32,
-    pub offered: [u32; 9],
-    pub cop: [u32; 9],
-    pub qualified: [u32; 9],
-    ghost powers: { (hsl ≤ max_power) × (potential ≤ max_power) × Powers offered × Powers cop × Powers qualified },
+    pub offered: Reserves,
+    pub cop: Reserves,
+    pub qualified: Reserves,
+    ghost powers: { (hsl ≤ max_power) × (potential ≤ max_power) },
     ghost span: { (lowest_power ≤ℤ lsl) × (lsl ≤ℤ pos hsl) },
 }
 

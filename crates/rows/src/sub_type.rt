@@ -10,17 +10,7 @@ impl SubType {
         ensures value { result ≡ sub_number self }
         ensures nine { result < 10 }
     {
-        match self {
-            SubType::RegUp => 1,
-            SubType::RegDown => 2,
-            SubType::Pfr => 3,
-            SubType::Ufr => 4,
-            SubType::Ffr => 5,
-            SubType::Ecs => 6,
-            SubType::Ecm => 7,
-            SubType::Nss => 8,
-            SubType::Nsm => 9,
-        }
+        self as usize
     }
 }
 

@@ -4,8 +4,8 @@ use Rattle.entry.specs.Places.{at}
 use Rattle.entry.proofs.Kept.{keeps_when_within}
 use Rattle.entry.proofs.checks.keeps.Goals as goal
 
-pub returns-then-within : goal.returns-then-within
-returns-then-within c =
+pub returns-then-is_within : goal.returns-then-is_within
+returns-then-is_within c =
     let xs = c.args.list.now in
     let fx : SFits w64 c.figure-x.result = search rules in
     let fp : SFits w64 c.figure-previous.result = search rules in
@@ -14,5 +14,5 @@ returns-then-within c =
     let fh : SFits w64 c.place-low.result.1 = search rules in
     keeps_when_within c.args.form xs c.args.k c.place-low.ensures c.figure-x.ensures
     (c.figure-previous.ensures ∙ ap (at xs) c.saturating_sub.ensures) c.figure.ensures
-    ((simp to_z-of_z at c.if-within.ensures).0 refl)
+    ((simp to_z-of_z at c.if-is_within.ensures).0 refl)
     (simp to_z-of_z at c.keeps.ensures)

@@ -15,5 +15,5 @@ returns c =
     let w = c.requires.1.limited in
     cons_same (cast_back (at xs 0) (omega arith) (w 0 (omega arith)))
     (cons_same (signed_back (at xs 1) (w 1 (omega arith)))
-    (c.nine.ensures.same ∙ take_all sub_types (drop positions_at xs) (simp length-drop (omega (arith, c.requires.1.long)))))
+    (c.nine.ensures ∙ take_all sub_types (drop positions_at xs) (simp length-drop (omega (arith, c.requires.1.long)))))
     ∙ firsts_and_rest positions_at xs (omega (arith, c.requires.1.long))

@@ -1,27 +1,29 @@
-use Rattle.std.proofs.Common.{◌≡◌, ℕ, ◌<◌, ◌≢◌, length, get_or, pos, ◌∙◌, arith, get_or-set_other, get_or-set_same, below_more}
-use Rattle.std.proofs.lemmas.List.{ext_get_or, get_or-map, length-map, length-set}
+use Rattle.std.proofs.Common.{◌≡◌, ◌<◌, pos, nat_abs, ap, ◌∙◌, length, arith, rules, w64, to_z, of_z}
+use Rattle.std.proofs.lemmas.List.{ext_get_or, get_or-map, length-map}
+use Rattle.rows.proofs.FromFn.{elements_given}
 use Rattle.entry.specs.Places.{at, sub_types}
 use Rattle.entry.proofs.Casts.{cast_back}
 use Rattle.entry.proofs.Parts.{power_within, powers_kept}
 use Rattle.entry.proofs.powers.nine.Goals as goal
 
-pub loop-i-preserved : goal.loop-i-preserved
-loop-i-preserved c =
+pub invariant_of-result : goal.invariant_of-result
+invariant_of-result c =
+    let items = c.from_fn.ensures.items in
     let xs = c.args.list.now in
-    let i = c.loop-i.i in
-    let i< : i < sub_types = omega arith in
-    let same = cast_back (at xs i) (omega arith) (power_within sub_types _ xs c.requires.1 i i<) in (
-      simp length-set c.loop-i.invariant.0,
-      below_more _ _
-          (λ k h. let ne : k ≢ i = omega arith in rw get_or-set_other (c.loop-i.invariant.1 k h))
-          (let lt : i < length c.loop-i.r = omega (arith, c.loop-i.invariant.0) in rw get_or-set_same same),
-    )
+    record {
+      limits = powers_kept sub_types _ _ _ c.requires.1 items.long
+          (λ k h. ap pos (elements_given _ (λ i y. y ≡ nat_abs (to_z w64 (of_z w64 (at xs i)))) _ (λ i y q call. search rules) _ _ items k 0 h)
+          ∙ cast_back (at xs k) (omega arith) (power_within sub_types _ xs c.requires.1 k h));
+    }
 
 pub returns : goal.returns
 returns c =
-    let same : (k : ℕ) → k < sub_types → pos (get_or c.loop-i.r k 0) ≡ at c.args.list.now k = λ k h. c.loop-i.invariant.1 k (omega arith) in
-    record {
-      same = ext_get_or (pos 0) _ _ (simp length-map (omega (arith, c.loop-i.invariant.0, c.requires.1.long)))
-          (λ k h. let lt : k < length c.loop-i.r = omega (arith, length-map c.loop-i.r pos) in get_or-map pos _ k 0 (pos 0) lt ∙ same k (omega (arith, c.loop-i.invariant.0)));
-      powers = powers_kept sub_types _ _ _ c.requires.1 c.loop-i.invariant.0 same;
-    }
+    let items = c.from_fn.ensures.items in
+    let xs = c.args.list.now in
+    ext_get_or (pos 0) _ _ (simp length-map (omega (arith, items.long, c.requires.1.long)))
+    (λ k h. let m = length-map c.from_fn.result pos in
+    let lt : k < length c.from_fn.result = omega (arith, m) in
+    let lk : k < sub_types = omega (arith, items.long) in
+    get_or-map pos _ k 0 (pos 0) lt
+    ∙ ap pos (elements_given _ (λ i y. y ≡ nat_abs (to_z w64 (of_z w64 (at xs i)))) _ (λ i y q call. search rules) _ _ items k 0 lk)
+    ∙ cast_back (at xs k) (omega arith) (power_within sub_types _ xs c.requires.1 k lk))

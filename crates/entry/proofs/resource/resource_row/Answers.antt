@@ -1,5 +1,6 @@
 use Rattle.std.proofs.Common.{◌≡◌, length, pos, sym, ◌∙◌, arith}
 use Rattle.std.proofs.lemmas.List.{take_rest}
+use Rattle.rows.proofs.CodeRead.{code_of_number}
 use Rattle.rows.specs.Codes.{kind_number}
 use Rattle.rows.specs.Rows.{plain_side}
 use Rattle.entry.specs.Places.{at, resource_head, resource_side}
@@ -30,8 +31,8 @@ invariant_of-result c =
     let xs = c.args.list.now in
     let g : AllKept Resource xs = c.in_ok-check.ensures in
     let w = (whole_kept Resource xs g).limited in
-    let kind = c.kind_of.result in
-    let y : at xs 1 ≡ pos (kind_number kind) = sym (c.kind_of.ensures ∙ read_back (at xs 1) (omega arith) (w 1 (omega arith))) in
+    let kind = c.unwrap.result in
+    let y : at xs 1 ≡ pos (kind_number kind) = sym (code_of_number kind_number 1 4 c.try_from.ensures c.unwrap.ensures ∙ read_back (at xs 1) (omega arith) (w 1 (omega arith))) in
     let s = plain_side c.resource_side.result in
     let t = plain_side c.resource_side-2.result in
     let es = c.resource_side.ensures in
@@ -52,7 +53,7 @@ returns c =
     let w = (whole_kept Resource xs g).limited in (
       g,
       cons_same (cast_back (at xs 0) (omega arith) (w 0 (omega arith)))
-          (cons_same (c.kind_of.ensures ∙ read_back (at xs 1) (omega arith) (w 1 (omega arith)))
+          (cons_same (code_of_number kind_number 1 4 c.try_from.ensures c.unwrap.ensures ∙ read_back (at xs 1) (omega arith) (w 1 (omega arith)))
           (cons_same (mark_back (at xs 2) (w 2 (omega arith)))
           (cons_same (mark_back (at xs 3) (w 3 (omega arith)))
           (cons_same (cast_back (at xs 4) (omega arith) (w 4 (omega arith)))

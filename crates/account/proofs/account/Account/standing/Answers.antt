@@ -16,14 +16,14 @@ returns c =
     let f = plain_figures a.figures.now in
     let own = c.figures_on-own.result.now in
     let fits : SFits w64 c.balance.result = search rules in
-    let there = c.figures_on.ensures ∙ ap (λ side. figures_on side f) c.import_side.ensures in
+    let there = c.figures_on-import.ensures ∙ ap (λ side. figures_on side f) c.import_side.ensures in
     let stored = own.stored in
     let back : to_z w64 (of_z w64 c.from.result) ≡ own.storage_net = omega (arith, ints, c.from.ensures) in
     record {
       load = c.load.ensures.value;
       net = to_z-of_z w64 c.balance.result fits ∙ c.balance.ensures.value
-          ∙ net_same f.purchase f.sale (c.traded-bought.ensures.each 0 (omega arith)) (c.traded-sold.ensures.each 0 (omega arith)) (ap (λ s. s.dcimport) there);
+          ∙ net_same f.purchase f.sale (c.traded-bought.ensures 0 (omega arith)) (c.traded-sold.ensures 0 (omega arith)) (ap (λ s. s.dcimport) there);
       storage = back ∙ ap (λ s. s.storagenet) c.figures_on-own.ensures;
-      positions = λ k h. c.positions-positions.ensures.each k h
-          ∙ position_same (ap (λ s. get_or s.positions k 0) c.figures_on-own.ensures) (c.traded-sold.ensures.each (k + 1) (omega arith)) (c.traded-bought.ensures.each (k + 1) (omega arith));
+      positions = λ k h. c.positions.ensures.each k h
+          ∙ position_same (ap (λ s. get_or s.positions k 0) c.figures_on-own.ensures) (c.traded-sold.ensures (k + 1) (omega arith)) (c.traded-bought.ensures (k + 1) (omega arith));
     }

@@ -35,10 +35,10 @@ loop-t-preserved-then-kw-eq0 c =
       (λ s. omega (arith, c.loop-t.invariant.2 s)),
     )
 
+pub invariant_of-result : goal.invariant_of-result
+invariant_of-result c = record { few = λ s. omega (arith, c.loop-t.invariant.2 s, c.loop-t.auto.t-index-end, c.args.self.now.few.2) }
+
 pub returns : goal.returns
-returns c =
+returns c s h =
     let a = c.args.self.now in
-    record {
-      each = λ s h. sum_all (raw_moved c.args.party a.side a.qse s) a.trades.now _ c.loop-t-test.false (c.loop-t.invariant.1 s h) ∙ sym (moved_is c.args.party a.side a.qse s a.trades.now);
-      small = λ s. omega (arith, c.loop-t.invariant.2 s, c.loop-t.auto.t-index-end, a.few.2);
-    }
+    sum_all (raw_moved c.args.party a.side a.qse s) a.trades.now _ c.loop-t-test.false (c.loop-t.invariant.1 s h) ∙ sym (moved_is c.args.party a.side a.qse s a.trades.now)

@@ -1,21 +1,20 @@
-use Rattle.std.proofs.Common.{◌≡◌, ◌<◌, ◌≤◌, length, get_or, pos, ap, ◌∙◌, arith, length-set, w64, SFits, rules}
-use borrow.Author.Differences.{ints}
-use Rattle.std.proofs.lemmas.Int.{to_z-of_z}
+use Rattle.std.proofs.Common.{◌≡◌, ◌<◌, ◌≤◌, ⊎_elim, get_or, pos, arith, rules}
+use Rattle.std.proofs.lemmas.Bool.{cases_lt}
+use Rattle.std.proofs.lemmas.Int.{ints, to_z-of_z}
+use Rattle.std.proofs.lemmas.List.{get_or_past}
+use Rattle.rows.proofs.FromFn.{elements_given}
 use Rattle.account.specs.View.{counted}
-use Rattle.account.proofs.Arrays.{set_below, set_every}
 use Rattle.account.proofs.Bounds.{counted_is}
 use Rattle.account.proofs.standing.Standing.counted.Goals as goal
 
-pub loop-k-preserved : goal.loop-k-preserved
-loop-k-preserved c =
-    let s = c.args.self.now in
-    let xs = c.loop-k.found in
-    let z = get_or s.positions c.loop-k.k (pos 0) in
-    let lt : c.loop-k.k < length xs = omega arith in
-    let fits : SFits w64 z = search rules in
-    let is : c.not_below_zero.result ≡ counted z = c.not_below_zero.ensures ∙ ap counted (to_z-of_z w64 z fits) in
-    let low = s.low c.loop-k.k in (
-      simp length-set c.loop-k.invariant.0,
-      set_below xs c.loop-k.k c.not_below_zero.result 0 lt (λ k x. x ≡ counted (get_or s.positions k (pos 0))) c.loop-k.invariant.1 is,
-      set_every xs c.loop-k.k c.not_below_zero.result 0 lt (λ x. x ≤ 5130000000) c.loop-k.invariant.2 (omega (arith, ints, is, counted_is z)),
-    )
+pub returns-clause-each : goal.returns-clause-each
+returns-clause-each c k h =
+    elements_given _ (λ j x. x ≡ counted (get_or c.args.self.now.positions j (pos 0))) _ (λ i y q call. search (rules, to_z-of_z)) _ _ c.from_fn.ensures.items k 0 h
+
+pub returns-clause-small : goal.returns-clause-small
+returns-clause-small c k =
+    let z = get_or c.args.self.now.positions k (pos 0) in
+    ⊎_elim
+    (λ (h : k < 9). omega (arith, ints, returns-clause-each c k h, c.args.self.now.low k, counted_is z))
+    (λ (h : 9 ≤ k). omega (arith, get_or_past c.from_fn.result k 0 (omega (arith, c.from_fn.ensures.items.long))))
+    (cases_lt k 9)
