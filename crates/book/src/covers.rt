@@ -27,13 +27,7 @@ impl OpenBook {
     ) -> Result<u64, Fault>
         ensures { Covers qse side (state_of (open_book self.now) qses.now loads.now resources.now trades.now) covers.old covers.new result }
     {
-        if is_broken(
-            self.counts,
-            qses.len(),
-            loads.len(),
-            resources.len(),
-            trades.len(),
-        ) {
+        if is_broken(self.counts, qses, loads, resources, trades) {
             return Err(Fault::BrokenTable);
         }
         let number = qse_number(qse)?;

@@ -5,7 +5,8 @@ ghost use Rattle.book.specs.State.{state_of, open_book};
 ghost use Rattle.book.specs.Entries.{Enrols, new_qse};
 
 use super::books::OpenBook;
-use super::judge::{is_broken, is_enrolled, is_within};
+use super::judge::{is_broken, is_enrolled};
+use entry::checks::is_within;
 use rows::fault::Fault;
 use rows::figures::{Figures, FiguresSide};
 use rows::load::LoadRow;
@@ -54,13 +55,7 @@ impl OpenBook {
     ) -> Result<(), Fault>
         ensures { Enrols number (state_of (open_book self.old) qses.old loads.now resources.now trades.now) (state_of (open_book self.new) qses.new loads.now resources.now trades.now) result }
     {
-        if is_broken(
-            self.counts,
-            qses.len(),
-            loads.len(),
-            resources.len(),
-            trades.len(),
-        ) {
+        if is_broken(self.counts, qses, loads, resources, trades) {
             return Err(Fault::BrokenTable);
         }
         if !is_within(number, 1, 65535) {

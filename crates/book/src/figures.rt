@@ -23,13 +23,7 @@ impl OpenBook {
     ) -> Result<(), Fault>
         ensures { Figured list.now (state_of (open_book self.now) qses.old loads.now resources.now trades.now) (state_of (open_book self.now) qses.new loads.now resources.now trades.now) result }
     {
-        if is_broken(
-            self.counts,
-            qses.len(),
-            loads.len(),
-            resources.len(),
-            trades.len(),
-        ) {
+        if is_broken(self.counts, qses, loads, resources, trades) {
             return Err(Fault::BrokenTable);
         }
         let (number, figures) = figures_row(list)?;

@@ -24,13 +24,7 @@ impl OpenBook {
     ) -> Result<(), Fault>
         ensures { Loads list.now (state_of (open_book self.old) qses.now loads.old resources.now trades.now) (state_of (open_book self.new) qses.now loads.new resources.now trades.now) result }
     {
-        if is_broken(
-            self.counts,
-            qses.len(),
-            loads.len(),
-            resources.len(),
-            trades.len(),
-        ) {
+        if is_broken(self.counts, qses, loads, resources, trades) {
             return Err(Fault::BrokenTable);
         }
         let row = load_row(list)?;

@@ -2,7 +2,7 @@
 ghost use Rattle.book.specs.Entries.{Opens};
 
 use super::books::{Counts, OpenBook};
-use super::judge::is_within;
+use entry::checks::is_within;
 use rows::fault::Fault;
 
 impl OpenBook {

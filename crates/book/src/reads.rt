@@ -4,8 +4,8 @@ ghost use Rattle.account.specs.Account.{plain_tables};
 ghost use Rattle.book.specs.Reading.{NumberOf, SideOf, counted_tables};
 
 use super::books::Counts;
-use super::judge::is_within;
 use account::account::Tables;
+use entry::checks::is_within;
 use rows::codes::Side;
 use rows::fault::Fault;
 use rows::load::LoadRow;
@@ -26,14 +26,7 @@ pub(crate) fn qse_number(qse: i64) -> Result<u16, Fault>
 pub(crate) fn side_of(side: i64) -> Result<Side, Fault>
     ensures { SideOf side result }
 {
-    if !is_within(side, 1, 2) {
-        return Err(Fault::OutOfLimits { place: 2 });
-    }
-    if side == 1 {
-        Ok(Side::Snapshot)
-    } else {
-        Ok(Side::Adjusted)
-    }
+    Side::try_from(side).map_err(|_| Fault::OutOfLimits { place: 2 })
 }
 
 // The counted rows of the tables, which no later row reaches.

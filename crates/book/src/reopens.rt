@@ -21,13 +21,7 @@ impl StruckBook {
     ) -> Result<OpenBook, (StruckBook, Fault)>
         ensures { Reopens self (state_of (struck_book self) qses.now loads.now resources.now trades.now) result }
     {
-        if is_broken(
-            self.counts,
-            qses.len(),
-            loads.len(),
-            resources.len(),
-            trades.len(),
-        ) {
+        if is_broken(self.counts, qses, loads, resources, trades) {
             return Err((self, Fault::BrokenTable));
         }
         if self.outstanding > 0 {

@@ -24,13 +24,7 @@ impl OpenBook {
     ) -> Result<(), Fault>
         ensures { Supplies list.now (state_of (open_book self.old) qses.now loads.now resources.old trades.now) (state_of (open_book self.new) qses.now loads.now resources.new trades.now) result }
     {
-        if is_broken(
-            self.counts,
-            qses.len(),
-            loads.len(),
-            resources.len(),
-            trades.len(),
-        ) {
+        if is_broken(self.counts, qses, loads, resources, trades) {
             return Err(Fault::BrokenTable);
         }
         let row = resource_row(list)?;

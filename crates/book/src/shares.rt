@@ -23,13 +23,7 @@ impl StruckBook {
     ) -> Result<Option<(u32, u32)>, Fault>
         ensures { Shares qse (state_of (struck_book self.now) qses.now loads.now resources.now trades.now) result }
     {
-        if is_broken(
-            self.counts,
-            qses.len(),
-            loads.len(),
-            resources.len(),
-            trades.len(),
-        ) {
+        if is_broken(self.counts, qses, loads, resources, trades) {
             return Err(Fault::BrokenTable);
         }
         let number = qse_number(qse)?;

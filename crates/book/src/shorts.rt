@@ -26,13 +26,7 @@ impl OpenBook {
     ) -> Result<u64, Fault>
         ensures { Shorts (M.meaning m.now) qse (state_of (open_book self.now) qses.now loads.now resources.now trades.now) result }
     {
-        if is_broken(
-            self.counts,
-            qses.len(),
-            loads.len(),
-            resources.len(),
-            trades.len(),
-        ) {
+        if is_broken(self.counts, qses, loads, resources, trades) {
             return Err(Fault::BrokenTable);
         }
         let number = qse_number(qse)?;

@@ -27,13 +27,7 @@ impl OpenBook {
     ) -> Result<(StruckBook, u32), (OpenBook, Fault)>
         ensures { Strikes (M.meaning m.now) self (state_of (open_book self) qses.old loads.now resources.now trades.now) (map plain_qse qses.new) result }
     {
-        if is_broken(
-            self.counts,
-            qses.len(),
-            loads.len(),
-            resources.len(),
-            trades.len(),
-        ) {
+        if is_broken(self.counts, qses, loads, resources, trades) {
             return Err((self, Fault::BrokenTable));
         }
         let n = self.counts.qses;

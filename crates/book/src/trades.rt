@@ -24,13 +24,7 @@ impl OpenBook {
     ) -> Result<usize, Fault>
         ensures { Trades list.now (state_of (open_book self.old) qses.now loads.now resources.now trades.old) (state_of (open_book self.new) qses.now loads.now resources.now trades.new) result }
     {
-        if is_broken(
-            self.counts,
-            qses.len(),
-            loads.len(),
-            resources.len(),
-            trades.len(),
-        ) {
+        if is_broken(self.counts, qses, loads, resources, trades) {
             return Err(Fault::BrokenTable);
         }
         let row = trade_row(list)?;
@@ -59,13 +53,7 @@ impl OpenBook {
     ) -> Result<(), Fault>
         ensures { Voids place (state_of (open_book self.now) qses.now loads.now resources.now trades.old) (state_of (open_book self.now) qses.now loads.now resources.now trades.new) result }
     {
-        if is_broken(
-            self.counts,
-            qses.len(),
-            loads.len(),
-            resources.len(),
-            trades.len(),
-        ) {
+        if is_broken(self.counts, qses, loads, resources, trades) {
             return Err(Fault::BrokenTable);
         }
         if place >= self.counts.trades || !trades[place].counts {

@@ -37,12 +37,7 @@ fn pot_of(claim: &Claim, total: u32) -> u32
 fn all_low<T: Weighed>(rows: &[T]) -> bool
     ensures { Decides result (AllByRecursion (λ x. T.holds x ≤ 999000000000) rows.now) }
 {
-    for row in rows {
-        if row.cents() > LOW_CENTS {
-            return false;
-        }
-    }
-    true
+    rows.iter().all(|row| row.cents() <= LOW_CENTS)
 }
 
 // Whether the rows are as a strike left them: a table may have been changed between calls.
@@ -85,13 +80,7 @@ impl StruckBook {
     ) -> Result<(u32, u32), (Claim, Fault)>
         ensures { Charges claim (state_of (struck_book self.old) qses.old loads.old resources.now trades.now) (state_of (struck_book self.new) qses.new loads.new resources.now trades.now) result }
     {
-        if is_broken(
-            self.counts,
-            qses.len(),
-            loads.len(),
-            resources.len(),
-            trades.len(),
-        ) {
+        if is_broken(self.counts, qses, loads, resources, trades) {
             return Err((claim, Fault::BrokenTable));
         }
         let q = self.counts.qses;

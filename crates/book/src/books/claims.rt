@@ -4,8 +4,9 @@ ghost use Rattle.book.specs.State.{state_of, struck_book};
 ghost use Rattle.book.specs.Claims.{Claims, HandsBack};
 ghost use Rattle.book.specs.Causes.{Foreign};
 
-use super::super::judge::{is_broken, is_within};
+use super::super::judge::is_broken;
 use super::{Claim, StruckBook};
+use entry::checks::is_within;
 use rows::fault::Fault;
 use rows::load::LoadRow;
 use rows::qse::QseRow;
@@ -32,13 +33,7 @@ impl StruckBook {
     ) -> Result<Claim, Fault>
         ensures { Claims cents rate (state_of (struck_book self.old) qses.now loads.now resources.now trades.now) (state_of (struck_book self.new) qses.now loads.now resources.now trades.now) result }
     {
-        if is_broken(
-            self.counts,
-            qses.len(),
-            loads.len(),
-            resources.len(),
-            trades.len(),
-        ) {
+        if is_broken(self.counts, qses, loads, resources, trades) {
             return Err(Fault::BrokenTable);
         }
         if !is_within(cents, 1, 1_000_000_000) {
@@ -71,13 +66,7 @@ impl StruckBook {
     ) -> Result<(), (Claim, Fault)>
         ensures { HandsBack claim (state_of (struck_book self.old) qses.now loads.now resources.now trades.now) (state_of (struck_book self.new) qses.now loads.now resources.now trades.now) result }
     {
-        if is_broken(
-            self.counts,
-            qses.len(),
-            loads.len(),
-            resources.len(),
-            trades.len(),
-        ) {
+        if is_broken(self.counts, qses, loads, resources, trades) {
             return Err((claim, Fault::BrokenTable));
         }
         if is_foreign(&claim, self) {

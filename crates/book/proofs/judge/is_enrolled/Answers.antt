@@ -1,14 +1,14 @@
-use Rattle.std.proofs.Common.{sym, refl, ap, ◌∙◌}
+use Rattle.std.proofs.Common.{◌≡◌, ℕ, List, map, Some, None, Option, Decides, subst, sym, refl}
 use Rattle.std.proofs.lemmas.Bool.{false≢true}
-use Rattle.book.proofs.Enrolling.{among_at, among_after, among_none}
+use Rattle.std.specs.Prelude.{is_some}
+use Rattle.shortfall.specs.Pool.{Among}
+use Rattle.book.specs.Causes.{PlaceOf}
+use Rattle.book.proofs.Enrolling.{among_place}
 use Rattle.book.proofs.judge.is_enrolled.Goals as goal
 
-pub returns-then-q-number : goal.returns-then-q-number
-returns-then-q-number c =
-    ((λ _. among_at (λ q. q.number) c.args.number c.args.qses.now c.loop-q.q-index c.q-item.result c.loop-q-test.true (ap (λ q. q.number) (sym c.q-item.is) ∙ c.if-q-number.true)), λ _. refl)
-
-pub loop-q-preserved : goal.loop-q-preserved
-loop-q-preserved c = λ h. among_after (λ q. q.number) c.args.number c.args.qses.now c.loop-q.q-index c.q-item.result c.loop-q-test.true (λ e. c.if-q-number.false (ap (λ q. q.number) c.q-item.is ∙ e)) (c.loop-q.invariant h)
+among_where_found : (ns : List ℕ) (n : ℕ) (r : Option ℕ) → PlaceOf ns n r → Decides (is_some r) (Among ns n)
+among_where_found ns n None none = (λ e. absurd (false≢true e), λ h. absurd (none h))
+among_where_found ns n (Some k) first = (λ e. among_place ns n k first.inside first.there, λ h. refl)
 
 pub returns : goal.returns
-returns c = ((λ e. absurd (false≢true e)), λ h. absurd (among_none (λ q. q.number) c.args.number c.args.qses.now c.loop-q.q-index c.loop-q-test.false (c.loop-q.invariant h)))
+returns c = subst (λ b. Decides b (Among (map (λ q. q.number) c.args.qses.now) c.args.number)) (sym c.is_some.ensures) (among_where_found _ _ c.place_of.result c.place_of.ensures)
