@@ -1,6 +1,8 @@
 -- What the tests of a call say of its causes.
-use Rattle.std.proofs.Common.{◌≡◌, ℕ, zero, suc, ◌-◌, ◌<◌, ◌≤◌, Bool, true, false, List, [], ◌∷◌, map, length, take, ℤ, Decides, sym, refl, ap, ◌∙◌, subst, inl, inr, arith}
-use Rattle.std.proofs.lemmas.List.{length-map}
+use Rattle.std.proofs.Common.{◌≡◌, ℕ, zero, suc, Ok, Err, slice_set, ◌+◌, ◌-◌, ◌<◌, ◌≤◌, Bool, true, false, List, [], ◌∷◌, map, length, take, ℤ, Decides, sym, refl, ap, ◌∙◌, subst, inl, inr, arith}
+use Rattle.std.proofs.lemmas.List.{length-map, map-set}
+use Rattle.rows.specs.declared.fault.Fault.{Fault}
+use Rattle.book.specs.Entries.{Appends}
 use Rattle.std.proofs.lemmas.Bool.{false≢true, cases_lt}
 use Rattle.rows.specs.Rows.{plain_qse, plain_load, plain_resource, plain_trade}
 use Rattle.rows.specs.declared.fault.Fault.TheVariants.{BrokenTable, WrongLength, OutOfLimits, NotEnrolled, AlreadyEnrolled, BuyerIsSeller, NoPlace, NoSuchTrade, CoverTooShort, TotalTooHigh, ClaimsUsedUp, ForeignClaim, NoLoad, ClaimOutstanding}
@@ -100,3 +102,11 @@ module _ (p : ℕ) (x low high : ℤ) (r : Bool) (test : Decides r (Within x low
 
   pub not_outside : r ≡ true → Absent (outside p x low high)
   not_outside e f c = c.1 (test.0 e)
+
+-- a row added, seen as a plain row of the plain table
+module _ {X Y : Type 0} (f : X → Y) (n most : ℕ) (x : X) (old new : List X) where
+  pub append_refused : (e : Fault) → Appends n most x old new (Err e) → full n most (length (map f old)) e × (map f new ≡ map f old)
+  append_refused e h = (subst (λ l. full n most l e) (sym (length-map old f)) h.0, ap (map f) h.1)
+
+  pub append_granted : (k : ℕ) → Appends n most x old new (Ok k) → Absent (full n most (length (map f old))) × (k ≡ n + 1) × (map f new ≡ slice_set (map f old) n (f x))
+  append_granted k h = (has_place n most _ h.0 (omega (arith, h.1, length-map old f)), h.2, ap (map f) h.3 ∙ map-set f old n x)

@@ -1,5 +1,5 @@
 -- What the calls that enter rows answer, and what they make of the book.
-use Rattle.std.specs.Prelude.{◌≡◌, ℕ, zero, suc, true, false, cond, List, [], ◌∷◌, ◌++◌, length, drop, ℤ, pos, Ok, Err, Result, ◌==◌}
+use Rattle.std.specs.Prelude.{◌≡◌, ℕ, zero, suc, ◌+◌, ◌<◌, true, false, cond, List, [], ◌∷◌, ◌++◌, length, drop, ℤ, pos, Ok, Err, Result, ◌==◌, slice_set}
 use Rattle.rows.specs.Limits.{max_rows}
 use Rattle.rows.specs.Rows.{PlainQse, PlainFigures, PlainLoad, PlainResource, PlainTrade}
 use Rattle.rows.specs.declared.fault.Fault.{Fault}
@@ -16,6 +16,11 @@ use Rattle.book.specs.Causes.{Cause, Judged, Clear, broken, listed, outside, une
 abbrev pub Outcome : {V : Type 0} → List Cause → (V → State → Type 0) → State → State → Result V Fault → Type 0
 Outcome cs grants s s' (Ok v) = Clear cs × grants v s'
 Outcome cs grants s s' (Err e) = Judged cs e × (s' ≡ s)
+
+-- a row x after the first n, where a table has at most `most` rows and the book's has a place
+abbrev pub Appends : {X : Type 0} → ℕ → ℕ → X → List X → List X → Result ℕ Fault → Type 0
+Appends n most x old new (Ok k) = (n < most) × (n < length old) × (k ≡ n + 1) × (new ≡ slice_set old n x)
+Appends n most x old new (Err e) = full n most (length old) e × (new ≡ old)
 
 -- a book without rows and claims
 abbrev pub new_book : ℕ → Book

@@ -4,6 +4,7 @@ ghost use Rattle.rows.specs.Rows.{plain_qse};
 ghost use Rattle.book.specs.State.{state_of, open_book};
 ghost use Rattle.book.specs.Entries.{Enrols, new_qse};
 
+use super::append::append;
 use super::books::OpenBook;
 use super::judge::{is_broken, is_enrolled};
 use entry::checks::is_within;
@@ -66,11 +67,7 @@ impl OpenBook {
         if is_enrolled(&qses[0..at], number) {
             return Err(Fault::AlreadyEnrolled);
         }
-        if at >= MAX_QSES || at >= qses.len() {
-            return Err(Fault::NoPlace);
-        }
-        qses[at] = new_row(number);
-        self.counts.qses = at + 1;
+        self.counts.qses = append(qses, at, MAX_QSES, new_row(number))?;
         Ok(())
     }
 }

@@ -1,6 +1,7 @@
 // The shortfall book: every call, with its refusals.
 #![tactic(auto)]
 
+mod append;
 pub mod books;
 pub mod covers;
 pub mod enrols;

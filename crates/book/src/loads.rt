@@ -2,6 +2,7 @@
 ghost use Rattle.book.specs.State.{state_of, open_book};
 ghost use Rattle.book.specs.Entries.{Loads};
 
+use super::append::append;
 use super::books::OpenBook;
 use super::judge::{is_broken, is_enrolled};
 use entry::load::load_row;
@@ -31,12 +32,7 @@ impl OpenBook {
         if !is_enrolled(&qses[0..self.counts.qses], row.qse) {
             return Err(Fault::NotEnrolled);
         }
-        let at = self.counts.loads;
-        if at >= MAX_ROWS || at >= loads.len() {
-            return Err(Fault::NoPlace);
-        }
-        loads[at] = row;
-        self.counts.loads = at + 1;
+        self.counts.loads = append(loads, self.counts.loads, MAX_ROWS, row)?;
         Ok(())
     }
 }

@@ -2,6 +2,7 @@
 ghost use Rattle.book.specs.State.{state_of, open_book};
 ghost use Rattle.book.specs.Entries.{Supplies};
 
+use super::append::append;
 use super::books::OpenBook;
 use super::judge::{is_broken, is_enrolled};
 use entry::resource::resource_row;
@@ -31,12 +32,7 @@ impl OpenBook {
         if !is_enrolled(&qses[0..self.counts.qses], row.qse) {
             return Err(Fault::NotEnrolled);
         }
-        let at = self.counts.resources;
-        if at >= MAX_ROWS || at >= resources.len() {
-            return Err(Fault::NoPlace);
-        }
-        resources[at] = row;
-        self.counts.resources = at + 1;
+        self.counts.resources = append(resources, self.counts.resources, MAX_ROWS, row)?;
         Ok(())
     }
 }

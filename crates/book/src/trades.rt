@@ -2,6 +2,7 @@
 ghost use Rattle.book.specs.State.{state_of, open_book};
 ghost use Rattle.book.specs.Entries.{Trades, Voids};
 
+use super::append::append;
 use super::books::OpenBook;
 use super::judge::{are_enrolled, is_broken};
 use entry::trade::trade_row;
@@ -35,11 +36,7 @@ impl OpenBook {
             return Err(Fault::BuyerIsSeller);
         }
         let at = self.counts.trades;
-        if at >= MAX_ROWS || at >= trades.len() {
-            return Err(Fault::NoPlace);
-        }
-        trades[at] = row;
-        self.counts.trades = at + 1;
+        self.counts.trades = append(trades, at, MAX_ROWS, row)?;
         Ok(at)
     }
     // The trade at that place counts no more.

@@ -4,7 +4,7 @@ ghost use Rattle.book.specs.State.{open_book};
 ghost use Rattle.book.specs.declared.books.Claim.{Claim as Slip};
 ghost use Rattle.replay.specs.Runs.{OnOpen, StrikesBook, any_book, desk_of};
 
-use super::answers::{granted, placed, shortfall, uncovered};
+use super::answers::answered;
 use super::calls::{Answer, AnyBook, Call};
 use book::books::OpenBook;
 use measure::measure::Measure;
@@ -49,22 +49,44 @@ pub(crate) fn on_open<M: Measure>(
     ensures { (p : List (Maybe Slip)) → OnOpen (map M.meaning measures.now) call.entry (desk_of (open_book book) qses.old loads.old resources.old trades.old covers.old p) (desk_of (any_book result.0) qses.new loads.new resources.new trades.new covers.new p) result.1 }
 {
     let answer = match call {
-        Call::Figures(list) => granted(book.figures(qses, loads, resources, trades, list)),
-        Call::Load(list) => granted(book.load(qses, loads, resources, trades, list)),
-        Call::Resource(list) => granted(book.resource(qses, loads, resources, trades, list)),
-        Call::Trade(list) => placed(book.trade(qses, loads, resources, trades, list)),
-        Call::Enrol(qse) => granted(book.enrol(qses, loads, resources, trades, qse)),
-        Call::Void(place) => granted(book.void(qses, loads, resources, trades, place)),
+        Call::Figures(list) => answered(
+            book.figures(qses, loads, resources, trades, list),
+            |()| Answer::Granted,
+        ),
+        Call::Load(list) => answered(
+            book.load(qses, loads, resources, trades, list),
+            |()| Answer::Granted,
+        ),
+        Call::Resource(list) => answered(
+            book.resource(qses, loads, resources, trades, list),
+            |()| Answer::Granted,
+        ),
+        Call::Trade(list) => answered(
+            book.trade(qses, loads, resources, trades, list),
+            Answer::Placed,
+        ),
+        Call::Enrol(qse) => answered(
+            book.enrol(qses, loads, resources, trades, qse),
+            |()| Answer::Granted,
+        ),
+        Call::Void(place) => answered(
+            book.void(qses, loads, resources, trades, place),
+            |()| Answer::Granted,
+        ),
         Call::Short(j, qse) => {
             if j < measures.len() {
-                shortfall(book.short(&measures[j], qses, loads, resources, trades, qse))
+                answered(
+                    book.short(&measures[j], qses, loads, resources, trades, qse),
+                    Answer::Shortfall,
+                )
             } else {
                 Answer::NotAllowed
             }
         }
-        Call::Cover(qse, side) => uncovered(book.cover(
-            qses, loads, resources, trades, covers, qse, side,
-        )),
+        Call::Cover(qse, side) => answered(
+            book.cover(qses, loads, resources, trades, covers, qse, side),
+            Answer::Uncovered,
+        ),
         Call::Strike(j) => {
             if j < measures.len() {
                 return strike_open(&measures[j], book, qses, loads, resources, trades);

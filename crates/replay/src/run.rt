@@ -54,20 +54,12 @@ pub fn replay<'a, M: Measure>(
     ensures guarantee { Guarantee (map M.meaning measures.now) }
 {
     let mut current = AnyBook::Open(book);
-    for i in 0..journal.len() {
+    for entry in journal.iter_mut() {
         let (next, answer) = apply(
-            journal[i].call,
-            measures,
-            current,
-            qses,
-            loads,
-            resources,
-            trades,
-            covers,
-            purse,
+            entry.call, measures, current, qses, loads, resources, trades, covers, purse,
         );
         current = next;
-        journal[i].answer = answer;
+        entry.answer = answer;
     }
     current
 }

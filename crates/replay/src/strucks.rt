@@ -4,7 +4,7 @@ ghost use Rattle.book.specs.declared.books.Claim.{Claim as Slip};
 ghost use Rattle.book.specs.State.{struck_book};
 ghost use Rattle.replay.specs.Runs.{OnStruck, any_book, desk_of};
 
-use super::answers::shared;
+use super::answers::answered;
 use super::calls::{Answer, AnyBook, Call};
 use super::purse::{is_free, put_claim, take_claim};
 use book::books::{Claim, StruckBook};
@@ -123,7 +123,10 @@ pub(crate) fn on_struck(
     ensures { (cs : List (List ℕ)) → OnStruck call.entry (desk_of (struck_book book) qses.old loads.old resources.now trades.now cs purse.old) (desk_of (any_book result.0) qses.new loads.new resources.now trades.now cs purse.new) result.1 }
 {
     let answer = match call {
-        Call::Share(qse) => shared(book.share(qses, loads, resources, trades, qse)),
+        Call::Share(qse) => answered(
+            book.share(qses, loads, resources, trades, qse),
+            Answer::Shared,
+        ),
         Call::Claim(cents, rate) => claim_next(
             &mut book, qses, loads, resources, trades, purse, cents, rate,
         ),

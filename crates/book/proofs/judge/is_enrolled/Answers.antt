@@ -1,4 +1,4 @@
-use Rattle.std.proofs.Common.{◌≡◌, ℕ, List, map, Some, None, Option, Decides, subst, sym, refl}
+use Rattle.std.proofs.Common.{ℕ, List, map, Some, None, Option, Decides, subst, sym, refl}
 use Rattle.std.proofs.lemmas.Bool.{false≢true}
 use Rattle.std.specs.Prelude.{is_some}
 use Rattle.shortfall.specs.Pool.{Among}

@@ -6,22 +6,22 @@ use Rattle.replay.proofs.Guaranteed.{guaranteed}
 use Rattle.replay.proofs.Replaying.{turn, whole, calls_kept, all_lawful}
 use Rattle.replay.proofs.run.replay.Goals as goal
 
-pub loop-i-preserved : goal.loop-i-preserved
-loop-i-preserved g c =
+pub loop-entry-preserved : goal.loop-entry-preserved
+loop-entry-preserved g c =
     let ms = map g.M.Measure.meaning c.args.measures.now in
-    let js = c.loop-i.journal in
-    let i = c.loop-i.i in
+    let js = c.loop-entry.journal in
+    let i = c.loop-entry.entry-index in
     let z : Entry = record { call = Figures (record { ref_ptr = (0, 0); now = [] }); answer = NotAllowed } in
     let lt : i < length js = omega arith in
-    (turn ms js i z _ _ _ _ lt refl c.apply-next.ensures c.loop-i.invariant.0, calls_kept js i z _ lt refl ∙ c.loop-i.invariant.1)
+    (turn ms js i z _ _ _ _ lt refl c.apply-next.ensures c.loop-entry.invariant.0, calls_kept js i z _ lt refl ∙ c.loop-entry.invariant.1)
 
 pub returns : goal.returns
 returns g c =
     let laws = g.met.M.Measure in
-    let done : length c.loop-i.journal ≤ c.loop-i.i = omega arith in
+    let done : length c.loop-entry.journal ≤ c.loop-entry.entry-index = omega arith in
     record {
-      calls = c.loop-i.invariant.1;
-      run = whole _ c.loop-i.journal c.loop-i.i _ _ done c.loop-i.invariant.0;
+      calls = c.loop-entry.invariant.1;
+      run = whole _ c.loop-entry.journal c.loop-entry.entry-index _ _ done c.loop-entry.invariant.0;
       guarantee = guaranteed (map g.M.Measure.meaning c.args.measures.now)
           (all_lawful g.M.Measure.meaning (λ x. record { order = laws.order x; pool = laws.pool x; help = laws.help x; nothing = laws.nothing x }) c.args.measures.now);
     }

@@ -6,7 +6,7 @@ use Rattle.replay.proofs.strucks.on_struck.Goals as goal
 pub returns-in-Share : goal.returns-in-Share
 returns-in-Share c =
     let fits : SFits w64 c.in-Share.qse = search rules in
-    λ cs. struck_call _ _ _ _ _ c.in-Share.is (record { result = c.share.result; done = simp to_z-of_z at c.share.ensures; answer = c.shared-answer.ensures; same = refl })
+    λ cs. struck_call _ _ _ _ _ c.in-Share.is (record { result = c.share.result; done = simp to_z-of_z at c.share.ensures; answer = search rules; same = refl })
 
 pub returns-in-Claim : goal.returns-in-Claim
 returns-in-Claim c =

@@ -1,5 +1,5 @@
-use Rattle.std.proofs.Common.{◌≡◌, ◌+◌, ◌≤◌, ◌⊎◌, length, set, pos, nat_abs, refl, ap, ◌∙◌, subst, inl, inr, arith, w64, SFits, to_z, of_z, rules}
-use Rattle.std.proofs.lemmas.List.{length-map, map-set}
+use Rattle.std.proofs.Common.{map, ◌≡◌, ◌+◌, set, pos, nat_abs, refl, ap, ◌∙◌, subst, inl, inr, arith, w64, SFits, to_z, of_z, rules}
+use Rattle.std.proofs.lemmas.Result.{err_from_is_err_and}
 use Rattle.std.proofs.lemmas.Int.{to_z-of_z}
 use Rattle.rows.specs.Rows.{plain_qse}
 use Rattle.rows.specs.declared.fault.Fault.TheVariants.{AlreadyEnrolled}
@@ -8,7 +8,7 @@ use Rattle.entry.proofs.Casts.{cast_back}
 use Rattle.book.specs.Causes.{Absent, already}
 use Rattle.book.specs.Entries.{new_qse}
 use Rattle.book.specs.State.{open_book, state_of, with_book, with_counts, with_qses}
-use Rattle.book.proofs.Judging.{table_broken, table_sound, is_outside, not_outside, is_already, not_yet, has_place}
+use Rattle.book.proofs.Judging.{table_broken, table_sound, is_outside, not_outside, is_already, not_yet, append_refused, append_granted}
 use Rattle.book.proofs.books.OpenBook.enrol.Goals as goal
 
 pub returns-then-is_broken : goal.returns-then-is_broken
@@ -33,8 +33,9 @@ returns-then-is_enrolled c =
     ap counted (cast_back c.args.number (omega arith) ((simp to_z-of_z at c.is_within.ensures).0 c.if-not-is_within.false)) in
     (inr (sound, inr (lawful, inl (subst (λ n. already s n AlreadyEnrolled) same (is_already b c.args.qses.now c.args.loads.now c.args.resources.now c.args.trades.now _ _ c.is_enrolled.ensures c.if-is_enrolled.true)))), refl)
 
-pub returns-then-at-ge-MAX_QSES : goal.returns-then-at-ge-MAX_QSES
-returns-then-at-ge-MAX_QSES c =
+pub returns-in_err-self : goal.returns-in_err-self
+returns-in_err-self c =
+    let p = err_from_is_err_and c.from_residual.result c.from_residual.ensures.1 in
     let b = open_book c.args.self.now in
     let s = state_of b c.args.qses.now c.args.loads.now c.args.resources.now c.args.trades.now in
     let sound = table_sound b c.args.qses.now c.args.loads.now c.args.resources.now c.args.trades.now _ c.is_broken.ensures c.if-is_broken.false in
@@ -43,8 +44,8 @@ returns-then-at-ge-MAX_QSES c =
     let same : nat_abs (to_z w64 (of_z w64 c.args.number)) ≡ counted c.args.number =
     ap counted (cast_back c.args.number (omega arith) ((simp to_z-of_z at c.is_within.ensures).0 c.if-not-is_within.false)) in
     let new = subst (λ n. Absent (already s n)) same (not_yet b c.args.qses.now c.args.loads.now c.args.resources.now c.args.trades.now _ _ c.is_enrolled.ensures c.if-is_enrolled.false) in
-    let many = elim c.then-at-ge-MAX_QSES.either as (λ _. (64 ≤ b.qses) ⊎ (length s.qses ≤ b.qses)) [ inl h ↦ inl h | inr h ↦ inr (omega (arith, h, length-map c.args.qses.now plain_qse)) ] in
-    (inr (sound, inr (lawful, inr (new, inl (refl, many)))), refl)
+    let no = append_refused plain_qse b.qses 64 c.new_row.result c.args.qses.now c.append.new.table c.in_err-self.field-0.0 c.in_err-self.ensures in
+    rw (p.1, p.2) (inr (sound, inr (lawful, inr (new, inl no.0))), ap (λ l. with_qses s l) no.1)
 
 pub returns : goal.returns
 returns c =
@@ -56,7 +57,6 @@ returns c =
     let same : nat_abs (to_z w64 (of_z w64 c.args.number)) ≡ counted c.args.number =
     ap counted (cast_back c.args.number (omega arith) ((simp to_z-of_z at c.is_within.ensures).0 c.if-not-is_within.false)) in
     let new = subst (λ n. Absent (already s n)) same (not_yet b c.args.qses.now c.args.loads.now c.args.resources.now c.args.trades.now _ _ c.is_enrolled.ensures c.if-is_enrolled.false) in
-    let room = has_place b.qses 64 (length s.qses) (omega arith) (omega (arith, length-map c.args.qses.now plain_qse)) in
+    let yes = append_granted plain_qse b.qses 64 c.new_row.result c.args.qses.now c.append.new.table c.in_ok-self.field-0 c.in_ok-self.ensures in
     let row = c.new_row.ensures ∙ ap new_qse same in
-    let rows = map-set plain_qse c.args.qses.now b.qses _ ∙ ap (λ q. set s.qses b.qses q) row in
-    ((sound, (lawful, (new, (room, tt)))), ap (λ l. with_qses (with_book s (with_counts b (b.qses + 1) b.loads b.resources b.trades)) l) rows)
+    ((sound, (lawful, (new, (yes.0, tt)))), ap (λ m. with_qses (with_book s (with_counts b m b.loads b.resources b.trades)) (map plain_qse c.append.new.table)) yes.1 ∙ ap (λ l. with_qses (with_book s (with_counts b (b.qses + 1) b.loads b.resources b.trades)) l) yes.2 ∙ ap (λ x. with_qses (with_book s (with_counts b (b.qses + 1) b.loads b.resources b.trades)) (set s.qses b.qses x)) row)

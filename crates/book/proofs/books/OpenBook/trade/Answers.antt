@@ -1,5 +1,4 @@
-use Rattle.std.proofs.Common.{◌+◌, ◌≤◌, ◌⊎◌, length, sym, refl, ap, ◌∙◌, subst, inl, inr, arith}
-use Rattle.std.proofs.lemmas.List.{length-map, map-set}
+use Rattle.std.proofs.Common.{map, ◌+◌, sym, refl, ap, ◌∙◌, subst, inl, inr}
 use Rattle.std.proofs.lemmas.Result.{err_from_is_err_and}
 use Rattle.rows.specs.Limits.{max_rows}
 use Rattle.rows.specs.Rows.{plain_trade}
@@ -9,7 +8,7 @@ use Rattle.entry.specs.declared.form.Form.TheVariants.{Trade}
 use Rattle.account.specs.View.{counted}
 use Rattle.book.specs.Causes.{Absent, unpartied}
 use Rattle.book.specs.State.{open_book, state_of, with_book, with_counts, with_trades}
-use Rattle.book.proofs.Judging.{table_broken, table_sound, not_both, both_among, nothing_refused, has_place, two_parties}
+use Rattle.book.proofs.Judging.{table_broken, table_sound, not_both, both_among, nothing_refused, two_parties, append_refused, append_granted}
 use Rattle.book.proofs.books.OpenBook.trade.Goals as goal
 
 pub returns-then-is_broken : goal.returns-then-is_broken
@@ -44,8 +43,9 @@ returns-then-row c =
     let parties = subst (λ n. Absent (unpartied s n (counted (at c.args.list.now 4)))) seller (subst (λ n. Absent (unpartied s c.in_ok-row.row.seller n)) buyer known) in
     (inr (sound, inr (nothing_refused Trade _ entered.0, inr (parties, inl (refl, sym buyer ∙ c.if-row.true ∙ seller)))), refl)
 
-pub returns-then-at-ge-MAX_ROWS : goal.returns-then-at-ge-MAX_ROWS
-returns-then-at-ge-MAX_ROWS c =
+pub returns-in_err-self : goal.returns-in_err-self
+returns-in_err-self c =
+    let p = err_from_is_err_and c.from_residual-in_err-self.result c.from_residual-in_err-self.ensures.1 in
     let b = open_book c.args.self.now in
     let s = state_of b c.args.qses.now c.args.loads.now c.args.resources.now c.args.trades.now in
     let entered = c.in_ok-row.ensures.entered in
@@ -55,8 +55,8 @@ returns-then-at-ge-MAX_ROWS c =
     let known = both_among b c.args.qses.now c.args.loads.now c.args.resources.now c.args.trades.now _ _ _ c.are_enrolled.ensures c.if-not-are_enrolled.false in
     let parties = subst (λ n. Absent (unpartied s n (counted (at c.args.list.now 4)))) seller (subst (λ n. Absent (unpartied s c.in_ok-row.row.seller n)) buyer known) in
     let two = two_parties (counted (at c.args.list.now 3)) (counted (at c.args.list.now 4)) (λ e. c.if-row.false (buyer ∙ e ∙ sym seller)) in
-    let many = elim c.then-at-ge-MAX_ROWS.either as (λ _. (max_rows ≤ b.trades) ⊎ (length s.trades ≤ b.trades)) [ inl h ↦ inl h | inr h ↦ inr (omega (arith, h, length-map c.args.trades.now plain_trade)) ] in
-    (inr (sound, inr (nothing_refused Trade _ entered.0, inr (parties, inr (two, inl (refl, many))))), refl)
+    let no = append_refused plain_trade b.trades max_rows c.in_ok-row.row c.args.trades.now c.append.new.table c.in_err-self.field-0.0 c.in_err-self.ensures in
+    rw (p.1, p.2) (inr (sound, inr (nothing_refused Trade _ entered.0, inr (parties, inr (two, inl no.0)))), ap (λ l. with_trades s l) no.1)
 
 pub returns : goal.returns
 returns c =
@@ -69,7 +69,8 @@ returns c =
     let known = both_among b c.args.qses.now c.args.loads.now c.args.resources.now c.args.trades.now _ _ _ c.are_enrolled.ensures c.if-not-are_enrolled.false in
     let parties = subst (λ n. Absent (unpartied s n (counted (at c.args.list.now 4)))) seller (subst (λ n. Absent (unpartied s c.in_ok-row.row.seller n)) buyer known) in
     let two = two_parties (counted (at c.args.list.now 3)) (counted (at c.args.list.now 4)) (λ e. c.if-row.false (buyer ∙ e ∙ sym seller)) in
+    let yes = append_granted plain_trade b.trades max_rows c.in_ok-row.row c.args.trades.now c.append.new.table c.in_ok-self.field-0 c.in_ok-self.ensures in
     let row = c.in_ok-row.row in (
-      (sound, (nothing_refused Trade _ entered.0, (parties, (two, (has_place b.trades max_rows (length s.trades) (omega arith) (omega (arith, length-map c.args.trades.now plain_trade)), tt))))),
-      (refl, (plain_trade row, entered.1, c.in_ok-row.ensures.counting, ap (λ l. with_trades (with_book s (with_counts b b.qses b.loads b.resources (b.trades + 1))) l) (map-set plain_trade c.args.trades.now b.trades row))),
+      (sound, (nothing_refused Trade _ entered.0, (parties, (two, (yes.0, tt))))),
+      (refl, (plain_trade row, entered.1, c.in_ok-row.ensures.counting, ap (λ m. with_trades (with_book s (with_counts b b.qses b.loads b.resources m)) (map plain_trade c.append.new.table)) yes.1 ∙ ap (λ l. with_trades (with_book s (with_counts b b.qses b.loads b.resources (b.trades + 1))) l) yes.2)),
     )
