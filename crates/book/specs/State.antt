@@ -23,28 +23,28 @@ pub record Book : Type 0 where
 
 abbrev pub open_book : OpenBook → Book
 open_book b = record {
-  number = b.number;
+  number = b.ledger.number;
   struck = false;
   total = 0;
-  made = b.made;
-  outstanding = b.outstanding;
-  qses = b.counts.qses;
-  loads = b.counts.loads;
-  resources = b.counts.resources;
-  trades = b.counts.trades;
+  made = b.ledger.made;
+  outstanding = b.ledger.outstanding;
+  qses = b.ledger.counts.qses;
+  loads = b.ledger.counts.loads;
+  resources = b.ledger.counts.resources;
+  trades = b.ledger.counts.trades;
 }
 
 abbrev pub struck_book : StruckBook → Book
 struck_book b = record {
-  number = b.number;
+  number = b.ledger.number;
   struck = true;
   total = b.total;
-  made = b.made;
-  outstanding = b.outstanding;
-  qses = b.counts.qses;
-  loads = b.counts.loads;
-  resources = b.counts.resources;
-  trades = b.counts.trades;
+  made = b.ledger.made;
+  outstanding = b.ledger.outstanding;
+  qses = b.ledger.counts.qses;
+  loads = b.ledger.counts.loads;
+  resources = b.ledger.counts.resources;
+  trades = b.ledger.counts.trades;
 }
 
 -- a book and its whole tables

@@ -15,9 +15,9 @@ pub struct Counts {
     ghost few: { (qses ≤ 64) × (loads ≤ max_rows) × (resources ≤ max_rows) × (trades ≤ max_rows) },
 }
 
-// A book that takes entries.
-#[derive(Drop)]
-pub struct OpenBook {
+// What a book keeps, open or struck: the counts of its rows and of its claims.
+#[derive(Clone, Copy)]
+pub struct Ledger {
     pub number: u32,
     pub counts: Counts,
     pub made: u16,
@@ -25,15 +25,17 @@ pub struct OpenBook {
     ghost claims: { (outstanding ≤ made) × (made ≤ 1000) },
 }
 
+// A book that takes entries.
+#[derive(Drop)]
+pub struct OpenBook {
+    pub ledger: Ledger,
+}
+
 // A book whose shortfalls are written, with their sum.
 #[derive(Drop)]
 pub struct StruckBook {
-    pub number: u32,
-    pub counts: Counts,
+    pub ledger: Ledger,
     pub total: u32,
-    pub made: u16,
-    pub outstanding: u16,
-    ghost claims: { (outstanding ≤ made) × (made ≤ 1000) },
     ghost limit: { total ≤ max_shortfall },
 }
 

@@ -27,15 +27,15 @@ impl OpenBook {
     ) -> Result<u64, Fault>
         ensures { Covers qse side (state_of (open_book self.now) qses.now loads.now resources.now trades.now) covers.old covers.new result }
     {
-        if is_broken(self.counts, qses, loads, resources, trades) {
+        if is_broken(self.ledger.counts, qses, loads, resources, trades) {
             return Err(Fault::BrokenTable);
         }
         let number = qse_number(qse)?;
         let on = side_of(side)?;
-        let Some(place) = place_of(&qses[0..self.counts.qses], number) else {
+        let Some(place) = place_of(&qses[0..self.ledger.counts.qses], number) else {
             return Err(Fault::NotEnrolled);
         };
-        let tables = tables_of(self.counts, loads, resources, trades);
+        let tables = tables_of(self.ledger.counts, loads, resources, trades);
         let account = Account::new(&qses[place], on, tables);
         cover(&account, covers)
     }

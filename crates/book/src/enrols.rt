@@ -56,18 +56,18 @@ impl OpenBook {
     ) -> Result<(), Fault>
         ensures { Enrols number (state_of (open_book self.old) qses.old loads.now resources.now trades.now) (state_of (open_book self.new) qses.new loads.now resources.now trades.now) result }
     {
-        if is_broken(self.counts, qses, loads, resources, trades) {
+        if is_broken(self.ledger.counts, qses, loads, resources, trades) {
             return Err(Fault::BrokenTable);
         }
         if !is_within(number, 1, 65535) {
             return Err(Fault::OutOfLimits { place: 1 });
         }
         let number = number as u16;
-        let at = self.counts.qses;
+        let at = self.ledger.counts.qses;
         if is_enrolled(&qses[0..at], number) {
             return Err(Fault::AlreadyEnrolled);
         }
-        self.counts.qses = append(qses, at, MAX_QSES, new_row(number))?;
+        self.ledger.counts.qses = append(qses, at, MAX_QSES, new_row(number))?;
         Ok(())
     }
 }

@@ -23,11 +23,11 @@ impl OpenBook {
     ) -> Result<(), Fault>
         ensures { Figured list.now (state_of (open_book self.now) qses.old loads.now resources.now trades.now) (state_of (open_book self.now) qses.new loads.now resources.now trades.now) result }
     {
-        if is_broken(self.counts, qses, loads, resources, trades) {
+        if is_broken(self.ledger.counts, qses, loads, resources, trades) {
             return Err(Fault::BrokenTable);
         }
         let (number, figures) = figures_row(list)?;
-        let Some(place) = place_of(&qses[0..self.counts.qses], number) else {
+        let Some(place) = place_of(&qses[0..self.ledger.counts.qses], number) else {
             return Err(Fault::NotEnrolled);
         };
         qses[place].figures = figures;

@@ -25,14 +25,14 @@ impl OpenBook {
     ) -> Result<(), Fault>
         ensures { Loads list.now (state_of (open_book self.old) qses.now loads.old resources.now trades.now) (state_of (open_book self.new) qses.now loads.new resources.now trades.now) result }
     {
-        if is_broken(self.counts, qses, loads, resources, trades) {
+        if is_broken(self.ledger.counts, qses, loads, resources, trades) {
             return Err(Fault::BrokenTable);
         }
         let row = load_row(list)?;
-        if !is_enrolled(&qses[0..self.counts.qses], row.qse) {
+        if !is_enrolled(&qses[0..self.ledger.counts.qses], row.qse) {
             return Err(Fault::NotEnrolled);
         }
-        self.counts.loads = append(loads, self.counts.loads, MAX_ROWS, row)?;
+        self.ledger.counts.loads = append(loads, self.ledger.counts.loads, MAX_ROWS, row)?;
         Ok(())
     }
 }

@@ -1,7 +1,7 @@
 // A book opened.
 ghost use Rattle.book.specs.Entries.{Opens};
 
-use super::books::{Counts, OpenBook};
+use super::books::{Counts, Ledger, OpenBook};
 use entry::checks::is_within;
 use rows::fault::Fault;
 
@@ -14,15 +14,17 @@ impl OpenBook {
             return Err(Fault::OutOfLimits { place: 1 });
         }
         Ok(OpenBook {
-            number: number as u32,
-            counts: Counts {
-                qses: 0,
-                loads: 0,
-                resources: 0,
-                trades: 0,
+            ledger: Ledger {
+                number: number as u32,
+                counts: Counts {
+                    qses: 0,
+                    loads: 0,
+                    resources: 0,
+                    trades: 0,
+                },
+                made: 0,
+                outstanding: 0,
             },
-            made: 0,
-            outstanding: 0,
         })
     }
 }

@@ -21,17 +21,14 @@ impl StruckBook {
     ) -> Result<OpenBook, (StruckBook, Fault)>
         ensures { Reopens self (state_of (struck_book self) qses.now loads.now resources.now trades.now) result }
     {
-        if is_broken(self.counts, qses, loads, resources, trades) {
+        if is_broken(self.ledger.counts, qses, loads, resources, trades) {
             return Err((self, Fault::BrokenTable));
         }
-        if self.outstanding > 0 {
+        if self.ledger.outstanding > 0 {
             return Err((self, Fault::ClaimOutstanding));
         }
         Ok(OpenBook {
-            number: self.number,
-            counts: self.counts,
-            made: self.made,
-            outstanding: self.outstanding,
+            ledger: self.ledger,
         })
     }
 }

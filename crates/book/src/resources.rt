@@ -25,14 +25,19 @@ impl OpenBook {
     ) -> Result<(), Fault>
         ensures { Supplies list.now (state_of (open_book self.old) qses.now loads.now resources.old trades.now) (state_of (open_book self.new) qses.now loads.now resources.new trades.now) result }
     {
-        if is_broken(self.counts, qses, loads, resources, trades) {
+        if is_broken(self.ledger.counts, qses, loads, resources, trades) {
             return Err(Fault::BrokenTable);
         }
         let row = resource_row(list)?;
-        if !is_enrolled(&qses[0..self.counts.qses], row.qse) {
+        if !is_enrolled(&qses[0..self.ledger.counts.qses], row.qse) {
             return Err(Fault::NotEnrolled);
         }
-        self.counts.resources = append(resources, self.counts.resources, MAX_ROWS, row)?;
+        self.ledger.counts.resources = append(
+            resources,
+            self.ledger.counts.resources,
+            MAX_ROWS,
+            row,
+        )?;
         Ok(())
     }
 }

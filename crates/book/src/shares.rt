@@ -23,11 +23,11 @@ impl StruckBook {
     ) -> Result<Option<(u32, u32)>, Fault>
         ensures { Shares qse (state_of (struck_book self.now) qses.now loads.now resources.now trades.now) result }
     {
-        if is_broken(self.counts, qses, loads, resources, trades) {
+        if is_broken(self.ledger.counts, qses, loads, resources, trades) {
             return Err(Fault::BrokenTable);
         }
         let number = qse_number(qse)?;
-        let Some(place) = place_of(&qses[0..self.counts.qses], number) else {
+        let Some(place) = place_of(&qses[0..self.ledger.counts.qses], number) else {
             return Err(Fault::NotEnrolled);
         };
         if self.total == 0 {

@@ -27,22 +27,19 @@ impl OpenBook {
     ) -> Result<(StruckBook, u32), (OpenBook, Fault)>
         ensures { Strikes (M.meaning m.now) self (state_of (open_book self) qses.old loads.now resources.now trades.now) (map plain_qse qses.new) result }
     {
-        if is_broken(self.counts, qses, loads, resources, trades) {
+        if is_broken(self.ledger.counts, qses, loads, resources, trades) {
             return Err((self, Fault::BrokenTable));
         }
-        let n = self.counts.qses;
-        let tables = tables_of(self.counts, loads, resources, trades);
+        let n = self.ledger.counts.qses;
+        let tables = tables_of(self.ledger.counts, loads, resources, trades);
         match write_shortfalls(m, &mut qses[0..n], tables) {
             Err(fault) => Err((self, fault)),
             Ok(t) => {
                 let total = t as u32;
                 Ok((
                     StruckBook {
-                        number: self.number,
-                        counts: self.counts,
+                        ledger: self.ledger,
                         total,
-                        made: self.made,
-                        outstanding: self.outstanding,
                     },
                     total,
                 ))

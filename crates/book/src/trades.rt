@@ -25,18 +25,18 @@ impl OpenBook {
     ) -> Result<usize, Fault>
         ensures { Trades list.now (state_of (open_book self.old) qses.now loads.now resources.now trades.old) (state_of (open_book self.new) qses.now loads.now resources.now trades.new) result }
     {
-        if is_broken(self.counts, qses, loads, resources, trades) {
+        if is_broken(self.ledger.counts, qses, loads, resources, trades) {
             return Err(Fault::BrokenTable);
         }
         let row = trade_row(list)?;
-        if !are_enrolled(&qses[0..self.counts.qses], row.seller, row.buyer) {
+        if !are_enrolled(&qses[0..self.ledger.counts.qses], row.seller, row.buyer) {
             return Err(Fault::NotEnrolled);
         }
         if row.buyer == row.seller {
             return Err(Fault::BuyerIsSeller);
         }
-        let at = self.counts.trades;
-        self.counts.trades = append(trades, at, MAX_ROWS, row)?;
+        let at = self.ledger.counts.trades;
+        self.ledger.counts.trades = append(trades, at, MAX_ROWS, row)?;
         Ok(at)
     }
     // The trade at that place counts no more.
@@ -50,10 +50,10 @@ impl OpenBook {
     ) -> Result<(), Fault>
         ensures { Voids place (state_of (open_book self.now) qses.now loads.now resources.now trades.old) (state_of (open_book self.now) qses.now loads.now resources.now trades.new) result }
     {
-        if is_broken(self.counts, qses, loads, resources, trades) {
+        if is_broken(self.ledger.counts, qses, loads, resources, trades) {
             return Err(Fault::BrokenTable);
         }
-        if place >= self.counts.trades || !trades[place].counts {
+        if place >= self.ledger.counts.trades || !trades[place].counts {
             return Err(Fault::NoSuchTrade);
         }
         trades[place].counts = false;

@@ -26,7 +26,7 @@ fn claim_next(
 ) -> Answer
     ensures { (cs : List (List ℕ)) → OnStruck (Call.Claim cents rate) (desk_of (struck_book book.old) qses.now loads.now resources.now trades.now cs purse.old) (desk_of (struck_book book.new) qses.now loads.now resources.now trades.now cs purse.new) result }
 {
-    let place = usize::from(book.made);
+    let place = usize::from(book.ledger.made);
     if !is_free(purse, place) {
         return Answer::NotAllowed;
     }

@@ -80,11 +80,11 @@ impl StruckBook {
     ) -> Result<(u32, u32), (Claim, Fault)>
         ensures { Charges claim (state_of (struck_book self.old) qses.old loads.old resources.now trades.now) (state_of (struck_book self.new) qses.new loads.new resources.now trades.now) result }
     {
-        if is_broken(self.counts, qses, loads, resources, trades) {
+        if is_broken(self.ledger.counts, qses, loads, resources, trades) {
             return Err((claim, Fault::BrokenTable));
         }
-        let q = self.counts.qses;
-        let l = self.counts.loads;
+        let q = self.ledger.counts.qses;
+        let l = self.ledger.counts.loads;
         if !is_fit(self.total, &qses[0..q], &loads[0..l]) {
             return Err((claim, Fault::BrokenTable));
         }
@@ -97,7 +97,7 @@ impl StruckBook {
             return Err((claim, Fault::NoLoad));
         }
         claim.spent = true;
-        self.outstanding -= 1;
+        self.ledger.outstanding -= 1;
         pay(qses, q, pot);
         pay(loads, l, rest);
         Ok((pot, rest))

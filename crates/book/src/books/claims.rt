@@ -15,9 +15,9 @@ use rows::trade::TradeRow;
 
 // Whether the claim is another book's, or none of this book's is outstanding.
 pub(super) fn is_foreign(claim: &Claim, book: &StruckBook) -> bool
-    ensures { Decides result (Foreign claim.now.book book.now.number book.now.outstanding) }
+    ensures { Decides result (Foreign claim.now.book book.now.ledger.number book.now.ledger.outstanding) }
 {
-    claim.book != book.number || book.outstanding == 0
+    claim.book != book.ledger.number || book.ledger.outstanding == 0
 }
 
 impl StruckBook {
@@ -33,7 +33,7 @@ impl StruckBook {
     ) -> Result<Claim, Fault>
         ensures { Claims cents rate (state_of (struck_book self.old) qses.now loads.now resources.now trades.now) (state_of (struck_book self.new) qses.now loads.now resources.now trades.now) result }
     {
-        if is_broken(self.counts, qses, loads, resources, trades) {
+        if is_broken(self.ledger.counts, qses, loads, resources, trades) {
             return Err(Fault::BrokenTable);
         }
         if !is_within(cents, 1, 1_000_000_000) {
@@ -42,13 +42,13 @@ impl StruckBook {
         if !is_within(rate, 0, 1_000_000) {
             return Err(Fault::OutOfLimits { place: 2 });
         }
-        if self.made >= 1000 {
+        if self.ledger.made >= 1000 {
             return Err(Fault::ClaimsUsedUp);
         }
-        self.made += 1;
-        self.outstanding += 1;
+        self.ledger.made += 1;
+        self.ledger.outstanding += 1;
         Ok(Claim {
-            book: self.number,
+            book: self.ledger.number,
             cents: cents as u32,
             rate: rate as u32,
             spent: false,
@@ -66,14 +66,14 @@ impl StruckBook {
     ) -> Result<(), (Claim, Fault)>
         ensures { HandsBack claim (state_of (struck_book self.old) qses.now loads.now resources.now trades.now) (state_of (struck_book self.new) qses.now loads.now resources.now trades.now) result }
     {
-        if is_broken(self.counts, qses, loads, resources, trades) {
+        if is_broken(self.ledger.counts, qses, loads, resources, trades) {
             return Err((claim, Fault::BrokenTable));
         }
         if is_foreign(&claim, self) {
             return Err((claim, Fault::ForeignClaim));
         }
         claim.spent = true;
-        self.outstanding -= 1;
+        self.ledger.outstanding -= 1;
         Ok(())
     }
 }

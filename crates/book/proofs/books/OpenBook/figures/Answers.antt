@@ -36,13 +36,13 @@ returns-in_default c =
     (inr (sound, inr (nothing_refused Figures _ entered.0, inl (subst (λ n. unenrolled s n NotEnrolled) q none))), refl)
 
 pub offset_bounds-qses-place : goal.offset_bounds-qses-place
-offset_bounds-qses-place c = record { fits = omega (arith, (place_taken (λ x. x.number) c.args.qses.now (c.args.self.now.counts.qses - 0) c.in-Some.place c.in-Some.ensures.inside).0, c.args.self.now.counts.few.0) }
+offset_bounds-qses-place c = record { fits = omega (arith, (place_taken (λ x. x.number) c.args.qses.now (c.args.self.now.ledger.counts.qses - 0) c.in-Some.place c.in-Some.ensures.inside).0, c.args.self.now.ledger.counts.few.0) }
 
 pub bounds-qses-place : goal.bounds-qses-place
-bounds-qses-place c = (place_taken (λ x. x.number) c.args.qses.now (c.args.self.now.counts.qses - 0) c.in-Some.place c.in-Some.ensures.inside).1
+bounds-qses-place c = (place_taken (λ x. x.number) c.args.qses.now (c.args.self.now.ledger.counts.qses - 0) c.in-Some.place c.in-Some.ensures.inside).1
 
 pub invariant_of-qses : goal.invariant_of-qses
-invariant_of-qses c d = ((place_taken (λ x. x.number) c.args.qses.now (c.args.self.now.counts.qses - 0) c.in-Some.place c.in-Some.ensures.inside).1, ((get_or c.args.qses.now c.in-Some.place d).limits, tt))
+invariant_of-qses c d = ((place_taken (λ x. x.number) c.args.qses.now (c.args.self.now.ledger.counts.qses - 0) c.in-Some.place c.in-Some.ensures.inside).1, ((get_or c.args.qses.now c.in-Some.place d).limits, tt))
 
 pub returns : goal.returns
 returns c =

@@ -27,10 +27,10 @@ returns-in_default g c =
     inr (sound, inr ((number_read q c.ranges.qse c.in_ok-number.number read).0, inl none))
 
 pub offset_bounds-qses-place : goal.offset_bounds-qses-place
-offset_bounds-qses-place g c = record { fits = omega (arith, (place_taken (λ x. x.number) c.args.qses.now (c.args.self.now.counts.qses - 0) c.in-Some.place c.in-Some.ensures.inside).0, c.args.self.now.counts.few.0) }
+offset_bounds-qses-place g c = record { fits = omega (arith, (place_taken (λ x. x.number) c.args.qses.now (c.args.self.now.ledger.counts.qses - 0) c.in-Some.place c.in-Some.ensures.inside).0, c.args.self.now.ledger.counts.few.0) }
 
 pub bounds-qses-place : goal.bounds-qses-place
-bounds-qses-place g c = (place_taken (λ x. x.number) c.args.qses.now (c.args.self.now.counts.qses - 0) c.in-Some.place c.in-Some.ensures.inside).1
+bounds-qses-place g c = (place_taken (λ x. x.number) c.args.qses.now (c.args.self.now.ledger.counts.qses - 0) c.in-Some.place c.in-Some.ensures.inside).1
 
 pub returns : goal.returns
 returns g c =

@@ -37,13 +37,13 @@ returns-then-self-eq0 c =
     ((sound, ((number_read q c.ranges.qse n read).0, (found, tt))), c.if-self-eq0.true)
 
 pub offset_bounds-qses-place : goal.offset_bounds-qses-place
-offset_bounds-qses-place c = record { fits = omega (arith, (place_taken (λ x. x.number) c.args.qses.now (c.args.self.now.counts.qses - 0) c.in-Some.place c.in-Some.ensures.inside).0, c.args.self.now.counts.few.0) }
+offset_bounds-qses-place c = record { fits = omega (arith, (place_taken (λ x. x.number) c.args.qses.now (c.args.self.now.ledger.counts.qses - 0) c.in-Some.place c.in-Some.ensures.inside).0, c.args.self.now.ledger.counts.few.0) }
 
 pub bounds-qses-place : goal.bounds-qses-place
-bounds-qses-place c = (place_taken (λ x. x.number) c.args.qses.now (c.args.self.now.counts.qses - 0) c.in-Some.place c.in-Some.ensures.inside).1
+bounds-qses-place c = (place_taken (λ x. x.number) c.args.qses.now (c.args.self.now.ledger.counts.qses - 0) c.in-Some.place c.in-Some.ensures.inside).1
 
 pub bounds-qses-place-else-self-eq0 : goal.bounds-qses-place-else-self-eq0
-bounds-qses-place-else-self-eq0 c d = (place_taken (λ x. x.number) c.args.qses.now (c.args.self.now.counts.qses - 0) c.in-Some.place c.in-Some.ensures.inside).1
+bounds-qses-place-else-self-eq0 c d = (place_taken (λ x. x.number) c.args.qses.now (c.args.self.now.ledger.counts.qses - 0) c.in-Some.place c.in-Some.ensures.inside).1
 
 pub returns : goal.returns
 returns c =
