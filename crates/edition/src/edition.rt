@@ -1,8 +1,8 @@
 // The editions that are measured by.
 #[derive(Clone, Copy)]
 pub enum Edition {
-    Grouped,
-    SubType,
+    Grouped = 0,
+    SubType = 1,
     // the greater of the two
-    Greater,
+    Greater = 2,
 }

@@ -6,13 +6,10 @@ use super::edition::Edition;
 pub fn named(word: &str) -> Option<Edition>
     ensures { Named word.now result }
 {
-    if word == "grouped" {
-        Some(Edition::Grouped)
-    } else if word == "subtype" {
-        Some(Edition::SubType)
-    } else if word == "greater" {
-        Some(Edition::Greater)
-    } else {
-        None
+    match word {
+        "grouped" => Some(Edition::Grouped),
+        "subtype" => Some(Edition::SubType),
+        "greater" => Some(Edition::Greater),
+        _ => None,
     }
 }

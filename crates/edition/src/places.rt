@@ -9,11 +9,7 @@ impl Edition {
     pub fn place(self) -> usize
         ensures { (d : Edition) → slice_index_or all_editions result d ≡ self }
     {
-        match self {
-            Edition::Grouped => 0,
-            Edition::SubType => 1,
-            Edition::Greater => 2,
-        }
+        self as usize
     }
 }
 

@@ -24,14 +24,8 @@ fn strike_open<M: Measure>(
     ensures { (cs : List (List ℕ)) (p : List (Maybe Slip)) → StrikesBook (M.meaning m.now) (desk_of (open_book book) qses.old loads.now resources.now trades.now cs p) (desk_of (any_book result.0) qses.new loads.now resources.now trades.now cs p) result.1 }
 {
     match book.strike(m, qses, loads, resources, trades) {
-        Ok(done) => {
-            let (struck, total) = done;
-            (AnyBook::Struck(struck), Answer::Total(total))
-        }
-        Err(refused) => {
-            let (open, fault) = refused;
-            (AnyBook::Open(open), Answer::Refused(fault))
-        }
+        Ok((struck, total)) => { (AnyBook::Struck(struck), Answer::Total(total)) }
+        Err((open, fault)) => { (AnyBook::Open(open), Answer::Refused(fault)) }
     }
 }
 

@@ -32,11 +32,5 @@ pub(crate) fn put_claim(purse: &mut [Option<Claim>], place: usize, claim: Claim)
 pub(crate) fn is_free(purse: &[Option<Claim>], place: usize) -> bool
     ensures { Decides result (Free purse.now place) }
 {
-    if place >= purse.len() {
-        return false;
-    }
-    match &purse[place] {
-        None => true,
-        Some(_) => false,
-    }
+    matches!(purse.get(place), Some(None))
 }

@@ -55,8 +55,7 @@ fn hand_back_at(
         None => Answer::NotAllowed,
         Some(claim) => match book.hand_back(qses, loads, resources, trades, claim) {
             Ok(()) => Answer::Granted,
-            Err(refused) => {
-                let (back, fault) = refused;
+            Err((back, fault)) => {
                 put_claim(purse, place, back);
                 Answer::Refused(fault)
             }
@@ -79,12 +78,8 @@ fn charge_at(
     match take_claim(purse, place) {
         None => Answer::NotAllowed,
         Some(claim) => match book.charge(qses, loads, resources, trades, claim) {
-            Ok(parts) => {
-                let (pot, rest) = parts;
-                Answer::Charged(pot, rest)
-            }
-            Err(refused) => {
-                let (back, fault) = refused;
+            Ok((pot, rest)) => { Answer::Charged(pot, rest) }
+            Err((back, fault)) => {
                 put_claim(purse, place, back);
                 Answer::Refused(fault)
             }
@@ -103,10 +98,7 @@ fn reopen_struck(
 {
     match book.reopen(qses, loads, resources, trades) {
         Ok(open) => (AnyBook::Open(open), Answer::Granted),
-        Err(refused) => {
-            let (struck, fault) = refused;
-            (AnyBook::Struck(struck), Answer::Refused(fault))
-        }
+        Err((struck, fault)) => { (AnyBook::Struck(struck), Answer::Refused(fault)) }
     }
 }
 

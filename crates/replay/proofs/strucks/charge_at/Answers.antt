@@ -18,7 +18,7 @@ returns-in-None c =
 pub returns-in-Ok : goal.returns-in-Ok
 returns-in-Ok c =
     let t = c.in-Some.ensures in
-    λ cs. inl (record { claim = c.in-Some.claim; held = sym t.value; result = Ok c.in-Ok.parts; done = c.in-Ok.ensures; answer = refl; covers = refl; purse = t.after })
+    λ cs. inl (record { claim = c.in-Some.claim; held = sym t.value; result = Ok (c.in-Ok.pot, c.in-Ok.rest); done = c.in-Ok.ensures; answer = refl; covers = refl; purse = t.after })
 
 pub returns-in-Err : goal.returns-in-Err
 returns-in-Err c =
@@ -27,9 +27,9 @@ returns-in-Err c =
     λ cs. inl (record {
       claim = c.in-Some.claim;
       held = sym t.value;
-      result = Err c.in-Err.refused;
+      result = Err (c.in-Err.back, c.in-Err.fault);
       done = e;
       answer = refl;
       covers = refl;
-      purse = put_back c.args.purse.now c.take_claim.new.purse c.put_claim.new.purse c.args.place c.in-Some.claim c.in-Err.refused.0 t.value t.after c.put_claim.ensures e.1;
+      purse = put_back c.args.purse.now c.take_claim.new.purse c.put_claim.new.purse c.args.place c.in-Some.claim c.in-Err.back t.value t.after c.put_claim.ensures e.1;
     })

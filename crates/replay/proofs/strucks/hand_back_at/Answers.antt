@@ -27,9 +27,9 @@ returns-in-Err c =
     λ cs. inl (record {
       claim = c.in-Some.claim;
       held = sym t.value;
-      result = Err c.in-Err.refused;
+      result = Err (c.in-Err.back, c.in-Err.fault);
       done = e;
       answer = refl;
       covers = refl;
-      purse = put_back c.args.purse.now c.take_claim.new.purse c.put_claim.new.purse c.args.place c.in-Some.claim c.in-Err.refused.0 t.value t.after c.put_claim.ensures e.1;
+      purse = put_back c.args.purse.now c.take_claim.new.purse c.put_claim.new.purse c.args.place c.in-Some.claim c.in-Err.back t.value t.after c.put_claim.ensures e.1;
     })

@@ -10,4 +10,4 @@ returns-in-Ok c =
 pub returns-in-Err : goal.returns-in-Err
 returns-in-Err c =
     let e = c.in-Err.ensures in
-    λ cs p. record { result = Err c.in-Err.refused.1; done = (e.0, ap (λ b. state_of (struck_book b) c.args.qses.now c.args.loads.now c.args.resources.now c.args.trades.now) e.1); answer = refl; covers = refl; purse = refl }
+    λ cs p. record { result = Err c.in-Err.fault; done = (e.0, ap (λ b. state_of (struck_book b) c.args.qses.now c.args.loads.now c.args.resources.now c.args.trades.now) e.1); answer = refl; covers = refl; purse = refl }
