@@ -13,7 +13,7 @@ pub enum Input {
     Cost(Vec<i64>),
 }
 
-pub fn read(heap: Global, text: &str) -> Result<Input, Refusal> {
+pub(crate) fn read(heap: Global, text: &str) -> Result<Input, Refusal> {
     let mut words = text.split_whitespace();
     let Some(first) = words.next() else {
         return Ok(Input::Nothing);

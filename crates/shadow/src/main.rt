@@ -20,9 +20,8 @@ use std::io::{BufRead, BufReader};
 fn main(rt: HostRuntime) -> io::Result<()> {
     let heap = rt.alloc();
     let mut desk = Desk::new(heap);
-    let mut number = 0u64;
-    for line in BufReader::new(heap, rt.stdin())?.lines(heap) {
-        number = number.saturating_add(1);
+    let lines = BufReader::new(heap, rt.stdin())?.lines(heap);
+    for (number, line) in (1u64..).zip(lines) {
         let text = line?;
         if let Err(refusal) = enter(&mut desk, heap, text.as_str()) {
             println!(rt; "line {number} {refusal}")?;
