@@ -1,5 +1,5 @@
 // Numbers that look drawn and are the same in every run.
-ghost use Rattle.std.specs.Prelude.{◌≡◌, ◌<◌, ◌≤◌, ◌^◌, Contains, length};
+ghost use Rattle.std.specs.Prelude.{◌≡◌, ◌≤◌};
 ghost use Rattle.drawn.specs.Draws.{next_state, number_at};
 
 use std::alloc::Global;
@@ -19,6 +19,7 @@ impl Draws {
     }
 
     // One of the numbers from 0 to `most`.
+    #[tactic(auto, unfolding(crate::specs::Draws::next_state, crate::specs::Draws::number_at))]
     pub fn up_to(&mut self, most: u32) -> u32
         ensures state { self.new.state ≡ next_state self.old.state }
         ensures number { result ≡ number_at self.new.state most }
@@ -28,14 +29,5 @@ impl Draws {
         self.state = product.wrapping_add(1442695040888963407);
         let high = (self.state >> 32) as u32;
         high % most.saturating_add(1)
-    }
-
-    // One of the items.
-    pub(crate) fn one_of<T: Copy>(&mut self, items: &[T]) -> T
-        requires some { 0 < length items.now }
-        requires few { length items.now < 2 ^ 32 }
-        ensures { Contains items.now result }
-    {
-        items[self.up_to((items.len() - 1) as u32) as usize]
     }
 }

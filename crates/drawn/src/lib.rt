@@ -6,5 +6,7 @@ pub mod draws;
 pub mod entered;
 mod figures;
 mod load;
+#[cfg(test)]
+mod tests;
 mod trade;
 mod unit;

@@ -7,12 +7,18 @@ use rows::codes::{Kind, Status};
 use std::alloc::AllocError;
 use std::array;
 
-const KINDS: [Kind; 3] = [Kind::Generation, Kind::Storage, Kind::LoadResource];
-
 // Greatest kW of a sub-type that a unit offers.
 const MOST_OFFERED: u32 = 300;
 
 impl Draws {
+    fn kind(&mut self) -> Kind {
+        match self.up_to(2) {
+            0 => Kind::Generation,
+            1 => Kind::Storage,
+            _ => Kind::LoadResource,
+        }
+    }
+
     // A generator has a floor, storage can charge.
     fn lsl(&mut self, kind: Kind, hsl: u32) -> i64 {
         match kind {
@@ -49,7 +55,7 @@ impl Draws {
         ensures long { IfOk result (λ l. vec_len l ≡ 67) }
         ensures owner { IfOk result (λ l. slice_get l.items 0 ≡ Some qse) }
     {
-        let kind = self.one_of(&KINDS);
+        let kind = self.kind();
         let mut list = vec![in self.heap; qse, kind_number(kind), 0, 0, 0]?;
         let side = self.unit_side(kind)?;
         list.extend_from_slice(side.as_slice())?;
