@@ -4,6 +4,9 @@ ghost use Rattle.rows.specs.Codes.{kind_number as kind_code, status_number as st
 
 use rows::codes::{Kind, Sides, Status, Traded};
 
+// How many sub-types of reserves there are.
+pub(crate) const SUB_TYPES: usize = 9;
+
 pub(crate) fn kind_number(kind: Kind) -> i64
     ensures { result ≡ pos (kind_code kind) }
 {
