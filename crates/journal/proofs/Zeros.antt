@@ -1,11 +1,7 @@
 -- Nine zeros are power figures.
-use Rattle.std.proofs.Common.{◌≡◌, ℕ, zero, suc, get_or, replicate, refl, arith}
+use Rattle.std.proofs.Common.{replicate, arith}
+use Rattle.std.proofs.lemmas.List.{get_or-replicate, get_or_past, length-replicate}
 use Rattle.rows.specs.Limits.{Powers}
 
-all_zero : (n k : ℕ) → get_or {A = ℕ} (replicate n 0) k 0 ≡ 0
-all_zero zero k = refl
-all_zero (suc n) zero = refl
-all_zero (suc n) (suc k) = all_zero n k
-
 pub nine_zeros : Powers (replicate 9 0)
-nine_zeros k = omega (arith, all_zero 9 k)
+nine_zeros k = grind (arith, get_or-replicate, get_or_past, length-replicate)

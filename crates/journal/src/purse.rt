@@ -1,8 +1,9 @@
 // The claims that a journal holds, each at its place.
-ghost use Rattle.std.specs.Prelude.{◌≡◌, ℕ, ◌-◌, ◌<◌, [], length, IfOk};
-ghost use Rattle.book.specs.State.{state_of, struck_book, with_book, with_claims};
-ghost use Rattle.replay.specs.Guarantee.{claims_in, Long, Holding};
-ghost use Rattle.replay.specs.Runs.{any_book, desk_of};
+ghost use Rattle.std.specs.Prelude.{◌≡◌, ℕ, ◌-◌, ◌<◌, IfOk};
+ghost use Rattle.book.specs.State.{struck_book, with_claims};
+ghost use Rattle.replay.specs.Guarantee.{claims_in, Long};
+ghost use Rattle.replay.specs.Runs.{any_book};
+ghost use Rattle.journal.specs.Kept.{Kept, state_at};
 
 use super::desk::Desk;
 use book::books::{Claim, StruckBook};
@@ -24,7 +25,7 @@ pub(crate) fn empty_purse(heap: Global) -> Result<Vec<Option<Claim>>, AllocError
 
 // Claims that are left go back to their book, since a claim is let go only once it is spent.
 pub(crate) fn close_purse(purse: Vec<Option<Claim>>, book: AnyBook, desk: &Desk)
-    requires { Holding (desk_of (any_book book) desk.now.qses.items desk.now.loads.items desk.now.resources.items desk.now.trades.items [] purse.items) }
+    requires { Kept (any_book book) desk.now purse.items }
 {
     match book {
         AnyBook::Struck(struck) => hand_all_back(purse, struck, desk),
@@ -38,21 +39,19 @@ fn end_empty(mut purse: Vec<Option<Claim>>)
     requires { claims_in purse.items ≡ 0 }
 {
     while let Some(place) = purse.pop() {
-        match place {
-            None => {}
-            Some(_) => unreachable(),
+        if let Some(_) = place {
+            unreachable()
         }
     }
     purse.destroy_empty();
 }
 
 fn hand_all_back(mut purse: Vec<Option<Claim>>, mut book: StruckBook, desk: &Desk)
-    requires { Holding (desk_of (struck_book book) desk.now.qses.items desk.now.loads.items desk.now.resources.items desk.now.trades.items [] purse.items) }
+    requires { Kept (struck_book book) desk.now purse.items }
 {
     while let Some(place) = purse.pop() {
-        match place {
-            None => {}
-            Some(claim) => hand_back(&mut book, desk, claim),
+        if let Some(claim) = place {
+            hand_back(&mut book, desk, claim);
         }
     }
     purse.destroy_empty();
@@ -62,7 +61,7 @@ fn hand_all_back(mut purse: Vec<Option<Claim>>, mut book: StruckBook, desk: &Des
 fn hand_back(book: &mut StruckBook, desk: &Desk, claim: Claim)
     requires ours { claim.book ≡ book.old.number }
     requires some { 0 < book.old.outstanding }
-    requires long { Long (state_of (struck_book book.old) desk.now.qses.items desk.now.loads.items desk.now.resources.items desk.now.trades.items) }
+    requires long { Long (state_at (struck_book book.old) desk.now) }
     ensures { struck_book book.new ≡ with_claims (struck_book book.old) book.old.made (book.old.outstanding - 1) }
 {
     match book.hand_back(

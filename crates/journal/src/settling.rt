@@ -1,9 +1,10 @@
 // The lines after the one that opened the book, by one replay of all their calls.
-ghost use Rattle.std.specs.Prelude.{◌≡◌, ℕ, []};
+ghost use Rattle.std.specs.Prelude.{◌≡◌, ℕ};
 ghost use Rattle.book.specs.Entries.{new_book};
 ghost use Rattle.book.specs.State.{open_book};
-ghost use Rattle.replay.specs.Guarantee.{claims_in, Holding};
-ghost use Rattle.replay.specs.Runs.{any_book, desk_of};
+ghost use Rattle.replay.specs.Guarantee.{claims_in};
+ghost use Rattle.replay.specs.Runs.{any_book};
+ghost use Rattle.journal.specs.Kept.{Kept};
 
 use super::answers::{calls_of, say_answers};
 use super::closing::say_closing;
@@ -38,7 +39,7 @@ fn run_calls(
 ) -> AnyBook
     requires opened { open_book book ≡ new_book book.number }
     requires empty { claims_in purse.old.items ≡ 0 }
-    ensures { Holding (desk_of (any_book result) desk.new.qses.items desk.new.loads.items desk.new.resources.items desk.new.trades.items [] purse.new.items) }
+    ensures { Kept (any_book result) desk.new purse.new.items }
 {
     replay(
         book,
