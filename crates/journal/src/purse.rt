@@ -13,6 +13,7 @@ use std::alloc::{AllocError, Global};
 // One more than a book makes, so that the book itself refuses the claim after its last.
 const PLACES: usize = 1001;
 
+#[tactic(auto, using(replay::proofs::Emptied::empty_push))]
 pub(crate) fn empty_purse(heap: Global) -> Result<Vec<Option<Claim>>, AllocError>
     ensures { IfOk result (λ p. claims_in p.items ≡ 0) }
 {
@@ -35,6 +36,7 @@ pub(crate) fn close_purse(purse: Vec<Option<Claim>>, book: AnyBook, desk: &Desk)
 }
 
 // A `for` over the purse would let what is left of it go, so it is emptied by hand.
+#[tactic(auto, using(replay::proofs::Emptied::empty_front, replay::proofs::Emptied::empty_last))]
 fn end_empty(mut purse: Vec<Option<Claim>>)
     requires { claims_in purse.items ≡ 0 }
 {
