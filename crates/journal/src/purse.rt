@@ -48,6 +48,7 @@ fn end_empty(mut purse: Vec<Option<Claim>>)
     purse.destroy_empty();
 }
 
+#[tactic(auto, using(replay::proofs::Emptied::front_held, replay::proofs::Emptied::last_ours, replay::proofs::Emptied::some_out))]
 fn hand_all_back(mut purse: Vec<Option<Claim>>, mut book: StruckBook, desk: &Desk)
     requires { Kept (struck_book book) desk.now purse.items }
 {

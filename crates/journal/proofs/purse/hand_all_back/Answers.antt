@@ -1,24 +1,8 @@
 use Rattle.std.proofs.Common.{[], ◌∷◌, ◌++◌, vec_items, refl, ap, ◌∙◌, subst}
 use Rattle.book.specs.State.{struck_book}
-use Rattle.replay.proofs.Emptied.{front_held, last_ours, some_out, back_held}
+use Rattle.replay.proofs.Emptied.{back_held}
 use Rattle.journal.specs.Kept.{Kept, state_at}
 use Rattle.journal.proofs.purse.hand_all_back.Goals as goal
-
-pub loop-place-preserved : goal.loop-place-preserved
-loop-place-preserved c =
-    let p = vec_items c.pop.new.self in
-    let b = struck_book c.loop-place.book in
-    let items = c.in-Some.ensures.items ∙ ap (λ o. p ++ o ∷ []) c.in_default-place.is in
-    front_held (state_at b c.args.desk.now) p (subst (Kept b c.args.desk.now) items c.loop-place.invariant)
-
-pub hand_back-requires : goal.hand_back-requires
-hand_back-requires c =
-    let p = vec_items c.pop.new.self in
-    let b = struck_book c.loop-place.book in
-    let s = state_at b c.args.desk.now in
-    let items = c.in-Some.ensures.items ∙ ap (λ o. p ++ o ∷ []) c.in-Some-place.is in
-    let held = subst (Kept b c.args.desk.now) items c.loop-place.invariant in
-    record { ours = last_ours s p c.in-Some-place.claim held; some = some_out s p c.in-Some-place.claim held; long = c.loop-place.invariant.long }
 
 pub loop-place-preserved-in-Some-place : goal.loop-place-preserved-in-Some-place
 loop-place-preserved-in-Some-place c =
