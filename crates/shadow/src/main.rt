@@ -32,8 +32,10 @@ fn main(rt: HostRuntime) -> io::Result<()> {
 
 // One line of the input: a row entered, the cost set, or nothing.
 fn enter(desk: &mut Desk, heap: Global, text: &str) -> Result<(), Refusal> {
-    match read(heap, text)? {
-        Input::Nothing => Ok(()),
+    let Some(input) = read(heap, text)? else {
+        return Ok(());
+    };
+    match input {
         Input::Figures(list) => desk.figures(list.as_slice()),
         Input::Load(list) => desk.load(list.as_slice()),
         Input::Resource(list) => desk.resource(list.as_slice()),
