@@ -52,7 +52,7 @@ impl Lent {
         let enrolled = book.enrol(qses, loads, resources, trades, number);
         enrolled.ok().context("a QSE is refused")?;
         let figured = book.figures(qses, loads, resources, trades, list);
-        Ok(figured.ok().context("the figures are refused")?)
+        figured.ok().context("the figures are refused")
     }
 
     fn load(&mut self, book: &mut OpenBook, list: &[i64]) -> anyhow::Result<()> {
@@ -63,7 +63,7 @@ impl Lent {
             self.trades.as_slice(),
             list,
         );
-        Ok(done.ok().context("a load is refused")?)
+        done.ok().context("a load is refused")
     }
 
     fn resource(&mut self, book: &mut OpenBook, list: &[i64]) -> anyhow::Result<()> {
@@ -74,7 +74,7 @@ impl Lent {
             self.trades.as_slice(),
             list,
         );
-        Ok(done.ok().context("a unit is refused")?)
+        done.ok().context("a unit is refused")
     }
 
     fn trade(&mut self, book: &mut OpenBook, list: &[i64]) -> anyhow::Result<()> {

@@ -49,7 +49,7 @@ impl Fleet {
     }
 
     pub(crate) fn tables(&self) -> anyhow::Result<Tables> {
-        Ok(Tables::new(&[], self.units.as_slice(), &[]).context("too many units")?)
+        Tables::new(&[], self.units.as_slice(), &[]).context("too many units")
     }
 
     // The account at the snapshot. Even and odd turns read the row at two places, so that no turn's work
