@@ -1,5 +1,5 @@
 // The calls after the opening, and what is printed of their answers.
-use super::journal::{Journal, Line};
+use super::lines::Line;
 use super::requests::Request;
 use replay::calls::{Answer, Entry};
 use rows::fault::Fault;
@@ -7,14 +7,10 @@ use std::alloc::{AllocError, Global};
 use std::fmt;
 
 // The calls of the lines, in their order.
-pub(crate) fn calls_of<'a>(
-    heap: Global,
-    journal: &'a Journal,
-    lines: &[Line],
-) -> Result<Vec<Entry<'a>>, AllocError> {
+pub(crate) fn calls_of<'a>(heap: Global, lines: &'a [Line]) -> Result<Vec<Entry<'a>>, AllocError> {
     let mut calls = Vec::new(heap);
     for line in lines {
-        if let Some(Request::Call(call)) = journal.request(line) {
+        if let Some(Request::Call(call)) = line.request() {
             calls.push(Entry {
                 call,
                 answer: Answer::NotAllowed,
@@ -27,18 +23,14 @@ pub(crate) fn calls_of<'a>(
 // A line of the output for each line; the calls are those of the lines, answered.
 pub(crate) fn say_answers(
     out: &mut String,
-    journal: &Journal,
     lines: &[Line],
     calls: &[Entry],
 ) -> Result<(), AllocError> {
-    let mut answered = calls.iter();
+    let mut answers = calls.iter().map(|entry| entry.answer);
     for line in lines {
-        let answer = match journal.request(line) {
+        let answer = match line.request() {
             None => None,
-            Some(Request::Call(_)) => match answered.next() {
-                Some(entry) => Some(entry.answer),
-                None => None,
-            },
+            Some(Request::Call(_)) => answers.next(),
             Some(_) => Some(Answer::NotAllowed),
         };
         say(out, line, answer)?;
@@ -48,18 +40,13 @@ pub(crate) fn say_answers(
 
 // A line without an answer is unreadable.
 pub(crate) fn say(out: &mut String, line: &Line, answer: Option<Answer>) -> Result<(), AllocError> {
-    let number = line.number;
     match (line.verb, answer) {
-        (Some(verb), Some(answer)) => {
-            let word = verb.word();
-            let said = Said(answer);
-            writeln!(out, "{number} {word} {said}")
-        }
-        _ => writeln!(out, "{number} unreadable"),
+        (Some(verb), Some(answer)) => writeln!(out, "{} {verb} {}", line.number, Said(answer)),
+        _ => writeln!(out, "{} unreadable", line.number),
     }
 }
 
-// An answer as it is printed.
+// An answer as it is printed; the type itself is another crate's.
 #[derive(Clone, Copy)]
 pub struct Said(Answer);
 

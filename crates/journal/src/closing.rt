@@ -32,28 +32,31 @@ pub(crate) fn say_closing(out: &mut String, desk: &Desk, book: &AnyBook) -> Resu
     let held = held_by(book);
     say_qses(out, desk.qses.as_slice(), held.counts.qses)?;
     say_loads(out, desk.loads.as_slice(), held.counts.loads)?;
-    let made = held.made;
-    let outstanding = held.outstanding;
-    writeln!(out, "claims made {made} outstanding {outstanding}")
+    writeln!(
+        out,
+        "claims made {} outstanding {}",
+        held.made, held.outstanding
+    )
 }
 
 fn say_qses(out: &mut String, rows: &[QseRow], count: usize) -> Result<(), AllocError> {
     for row in rows.get(0..count).unwrap_or(rows) {
-        let number = row.number;
-        let shortfall = row.shortfall;
-        let cents = row.cents;
-        writeln!(out, "qse {number} shortfall {shortfall} cents {cents}")?;
+        writeln!(
+            out,
+            "qse {} shortfall {} cents {}",
+            row.number, row.shortfall, row.cents
+        )?;
     }
     Ok(())
 }
 
 fn say_loads(out: &mut String, rows: &[LoadRow], count: usize) -> Result<(), AllocError> {
     for row in rows.get(0..count).unwrap_or(rows) {
-        let qse = row.qse;
-        let point = row.point;
-        let kwh = row.kwh;
-        let cents = row.cents;
-        writeln!(out, "load {qse} {point} {kwh} cents {cents}")?;
+        writeln!(
+            out,
+            "load {} {} {} cents {}",
+            row.qse, row.point, row.kwh, row.cents
+        )?;
     }
     Ok(())
 }

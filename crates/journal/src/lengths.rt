@@ -9,13 +9,10 @@ pub struct Lengths {
 }
 
 // The tables have to fit in memory.
-const MAX_LENGTH: i64 = 1_000_000;
+const MAX_LENGTH: usize = 1_000_000;
 
-fn length_of(n: i64) -> Option<usize> {
-    if n < 0 || n > MAX_LENGTH {
-        return None;
-    }
-    Some(n as usize)
+fn length_of(number: i64) -> Option<usize> {
+    usize::try_from(number).ok().filter(|n| *n <= MAX_LENGTH)
 }
 
 impl Lengths {

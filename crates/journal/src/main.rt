@@ -5,8 +5,8 @@ mod answers;
 mod blanks;
 mod closing;
 mod desk;
-mod journal;
 mod lengths;
+mod lines;
 mod opened;
 mod opening;
 mod purse;
@@ -14,7 +14,7 @@ mod requests;
 mod settling;
 mod verbs;
 
-use journal::Journal;
+use lines::read_lines;
 use opening::open_book;
 use settling::settle;
 use std::alloc::{AllocError, Global};
@@ -41,10 +41,10 @@ fn read_all(rt: &HostRuntime) -> io::Result<Vec<u8>> {
 // The whole output for a journal. Bytes that are no text make no word that is known.
 fn answer(heap: Global, bytes: &[u8]) -> Result<String, AllocError> {
     let text = String::from_utf8_lossy(heap, bytes)?;
-    let journal = Journal::read(heap, text.as_str())?;
+    let lines = read_lines(heap, text.as_str())?;
     let mut out = String::new(heap);
-    match open_book(&journal, &mut out)? {
-        Some(opened) => settle(heap, &journal, opened, &mut out)?,
+    match open_book(lines.as_slice(), &mut out)? {
+        Some(opened) => settle(heap, opened, &mut out)?,
         None => out.push_str("no book\n")?,
     }
     Ok(out)

@@ -2,14 +2,15 @@
 ghost use Rattle.std.specs.Prelude.{◌≡◌, ℕ};
 
 use super::lengths::Lengths;
+use super::lines::Line;
 use book::books::OpenBook;
 
 #[derive(Drop)]
-pub struct Opened {
+pub struct Opened<'a> {
     pub book: OpenBook,
     pub lengths: Lengths,
-    // how many lines that leaves behind
-    pub past: usize,
+    // the lines after it
+    pub rest: &'a [Line],
     ghost unclaimed: { (book.made ≡ 0) × (book.outstanding ≡ 0) },
     ghost rowless: { (book.counts.qses ≡ 0) × (book.counts.loads ≡ 0) × (book.counts.resources ≡ 0) × (book.counts.trades ≡ 0) },
 }

@@ -1,7 +1,7 @@
 // The lines up to the one that opens the book.
 use super::answers::say;
-use super::journal::Journal;
 use super::lengths::Lengths;
+use super::lines::Line;
 use super::opened::Opened;
 use super::requests::Request;
 use book::books::OpenBook;
@@ -9,12 +9,13 @@ use replay::calls::Answer;
 use std::alloc::AllocError;
 
 // Nothing where no line opens a book.
-pub(crate) fn open_book(journal: &Journal, out: &mut String) -> Result<Option<Opened>, AllocError> {
+pub(crate) fn open_book<'a>(
+    lines: &'a [Line],
+    out: &mut String,
+) -> Result<Option<Opened<'a>>, AllocError> {
     let mut lengths = Lengths::usual();
-    let mut past = 0usize;
-    for line in journal.after(0) {
-        past = past.saturating_add(1);
-        let answer = match journal.request(line) {
+    for (place, line) in lines.iter().enumerate() {
+        let answer = match line.request() {
             None => None,
             Some(Request::Call(_)) => Some(Answer::NotAllowed),
             Some(Request::Tables(given)) => {
@@ -28,7 +29,7 @@ pub(crate) fn open_book(journal: &Journal, out: &mut String) -> Result<Option<Op
                     return Ok(Some(Opened {
                         book,
                         lengths,
-                        past,
+                        rest: &lines[place + 1..],
                     }));
                 }
             },

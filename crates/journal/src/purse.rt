@@ -1,94 +1,79 @@
 // The claims that a journal holds, each at its place.
-ghost use Rattle.std.specs.Prelude.{◌≡◌, ℕ, ◌-◌, ◌<◌, [], length, IfOk};
-ghost use Rattle.book.specs.State.{state_of, struck_book, with_book, with_claims};
-ghost use Rattle.replay.specs.Guarantee.{claims_in, Long, Holding};
-ghost use Rattle.replay.specs.Runs.{any_book, desk_of};
+ghost use Rattle.std.specs.Prelude.{◌≡◌, ℕ, ◌-◌, ◌<◌, IfOk};
+ghost use Rattle.book.specs.State.{struck_book, with_claims};
+ghost use Rattle.replay.specs.Guarantee.{claims_in, Long};
+ghost use Rattle.replay.specs.Runs.{any_book};
+ghost use Rattle.journal.specs.Kept.{Kept, state_at};
 
+use super::desk::Desk;
 use book::books::{Claim, StruckBook};
 use replay::calls::AnyBook;
-use rows::load::LoadRow;
-use rows::qse::QseRow;
-use rows::resource::ResourceRow;
-use rows::trade::TradeRow;
 use std::alloc::{AllocError, Global};
 
 // One more than a book makes, so that the book itself refuses the claim after its last.
 const PLACES: usize = 1001;
 
+#[tactic(auto, using(replay::proofs::Emptied::empty_push))]
 pub(crate) fn empty_purse(heap: Global) -> Result<Vec<Option<Claim>>, AllocError>
     ensures { IfOk result (λ p. claims_in p.items ≡ 0) }
 {
     let mut purse = Vec::with_capacity(heap, PLACES)?;
-    while purse.len() < PLACES {
+    for _place in 0..PLACES {
         purse.push_reserved(None);
     }
     Ok(purse)
 }
 
 // Claims that are left go back to their book, since a claim is let go only once it is spent.
-pub(crate) fn close_purse(
-    purse: Vec<Option<Claim>>,
-    book: AnyBook,
-    qses: &[QseRow],
-    loads: &[LoadRow],
-    resources: &[ResourceRow],
-    trades: &[TradeRow],
-)
-    requires { Holding (desk_of (any_book book) qses.now loads.now resources.now trades.now [] purse.items) }
+pub(crate) fn close_purse(purse: Vec<Option<Claim>>, book: AnyBook, desk: &Desk)
+    requires { Kept (any_book book) desk.now purse.items }
 {
     match book {
-        AnyBook::Struck(struck) => hand_all_back(purse, struck, qses, loads, resources, trades),
+        AnyBook::Struck(struck) => hand_all_back(purse, struck, desk),
         // a book is not reopened while a claim is outstanding, so none is left
         AnyBook::Open(_) => end_empty(purse),
     }
 }
 
+// A `for` over the purse would let what is left of it go, so it is emptied by hand.
+#[tactic(auto, using(replay::proofs::Emptied::empty_front, replay::proofs::Emptied::empty_last))]
 fn end_empty(mut purse: Vec<Option<Claim>>)
     requires { claims_in purse.items ≡ 0 }
 {
     while let Some(place) = purse.pop() {
-        match place {
-            None => {}
-            Some(_) => unreachable(),
+        if let Some(_) = place {
+            unreachable()
         }
     }
     purse.destroy_empty();
 }
 
-fn hand_all_back(
-    mut purse: Vec<Option<Claim>>,
-    mut book: StruckBook,
-    qses: &[QseRow],
-    loads: &[LoadRow],
-    resources: &[ResourceRow],
-    trades: &[TradeRow],
-)
-    requires { Holding (desk_of (struck_book book) qses.now loads.now resources.now trades.now [] purse.items) }
+#[tactic(auto, using(replay::proofs::Emptied::front_held, replay::proofs::Emptied::last_ours, replay::proofs::Emptied::some_out))]
+fn hand_all_back(mut purse: Vec<Option<Claim>>, mut book: StruckBook, desk: &Desk)
+    requires { Kept (struck_book book) desk.now purse.items }
 {
     while let Some(place) = purse.pop() {
-        match place {
-            None => {}
-            Some(claim) => hand_back(&mut book, qses, loads, resources, trades, claim),
+        if let Some(claim) = place {
+            hand_back(&mut book, desk, claim);
         }
     }
     purse.destroy_empty();
 }
 
 // A book takes back each claim of its own.
-fn hand_back(
-    book: &mut StruckBook,
-    qses: &[QseRow],
-    loads: &[LoadRow],
-    resources: &[ResourceRow],
-    trades: &[TradeRow],
-    claim: Claim,
-)
+fn hand_back(book: &mut StruckBook, desk: &Desk, claim: Claim)
     requires ours { claim.book ≡ book.old.number }
     requires some { 0 < book.old.outstanding }
-    requires long { Long (state_of (struck_book book.old) qses.now loads.now resources.now trades.now) }
+    requires long { Long (state_at (struck_book book.old) desk.now) }
     ensures { struck_book book.new ≡ with_claims (struck_book book.old) book.old.made (book.old.outstanding - 1) }
 {
-    match book.hand_back(qses, loads, resources, trades, claim) {
+    match book.hand_back(
+        desk.qses.as_slice(),
+        desk.loads.as_slice(),
+        desk.resources.as_slice(),
+        desk.trades.as_slice(),
+        claim,
+    ) {
         Ok(()) => {}
         Err(_) => unreachable(),
     }

@@ -1,14 +1,14 @@
 // The lines after the one that opened the book, by one replay of all their calls.
-ghost use Rattle.std.specs.Prelude.{◌≡◌, ℕ, []};
+ghost use Rattle.std.specs.Prelude.{◌≡◌, ℕ};
 ghost use Rattle.book.specs.Entries.{new_book};
 ghost use Rattle.book.specs.State.{open_book};
-ghost use Rattle.replay.specs.Guarantee.{claims_in, Holding};
-ghost use Rattle.replay.specs.Runs.{any_book, desk_of};
+ghost use Rattle.replay.specs.Guarantee.{claims_in};
+ghost use Rattle.replay.specs.Runs.{any_book};
+ghost use Rattle.journal.specs.Kept.{Kept};
 
 use super::answers::{calls_of, say_answers};
 use super::closing::say_closing;
 use super::desk::Desk;
-use super::journal::Journal;
 use super::opened::Opened;
 use super::purse::{close_purse, empty_purse};
 use book::books::{Claim, OpenBook};
@@ -17,32 +17,15 @@ use replay::calls::{AnyBook, Entry};
 use replay::run::replay;
 use std::alloc::{AllocError, Global};
 
-pub(crate) fn settle(
-    heap: Global,
-    journal: &Journal,
-    opened: Opened,
-    out: &mut String,
-) -> Result<(), AllocError> {
-    let lines = journal.after(opened.past);
+pub(crate) fn settle(heap: Global, opened: Opened, out: &mut String) -> Result<(), AllocError> {
+    let lines = opened.rest;
     let mut desk = Desk::new(heap, opened.lengths)?;
-    let mut calls = calls_of(heap, journal, lines)?;
+    let mut calls = calls_of(heap, lines)?;
     let mut purse = empty_purse(heap)?;
-    let book = run_calls(
-        opened.book,
-        &mut desk,
-        purse.as_mut_slice(),
-        calls.as_mut_slice(),
-    );
-    let answered = say_answers(out, journal, lines, calls.as_slice());
+    let book = run_calls(opened.book, &mut desk, &mut purse, calls.as_mut_slice());
+    let answered = say_answers(out, lines, calls.as_slice());
     let closed = say_closing(out, &desk, &book);
-    close_purse(
-        purse,
-        book,
-        desk.qses.as_slice(),
-        desk.loads.as_slice(),
-        desk.resources.as_slice(),
-        desk.trades.as_slice(),
-    );
+    close_purse(purse, book, &desk);
     answered?;
     closed
 }
@@ -51,12 +34,12 @@ pub(crate) fn settle(
 fn run_calls(
     book: OpenBook,
     desk: &mut Desk,
-    purse: &mut [Option<Claim>],
+    purse: &mut Vec<Option<Claim>>,
     calls: &mut [Entry],
 ) -> AnyBook
     requires opened { open_book book ≡ new_book book.number }
-    requires empty { claims_in purse.old ≡ 0 }
-    ensures { Holding (desk_of (any_book result) desk.new.qses.items desk.new.loads.items desk.new.resources.items desk.new.trades.items [] purse.new) }
+    requires empty { claims_in purse.old.items ≡ 0 }
+    ensures { Kept (any_book result) desk.new purse.new.items }
 {
     replay(
         book,
@@ -66,7 +49,7 @@ fn run_calls(
         desk.resources.as_mut_slice(),
         desk.trades.as_mut_slice(),
         desk.covers.as_mut_slice(),
-        purse,
+        purse.as_mut_slice(),
         calls,
     )
 }

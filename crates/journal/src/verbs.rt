@@ -1,6 +1,7 @@
 // The first words of the lines.
 use edition::edition::Edition;
 use edition::names::named;
+use std::fmt;
 use std::str::SplitWhitespace;
 
 #[derive(Clone, Copy)]
@@ -24,44 +25,34 @@ pub enum Verb {
 }
 
 impl Verb {
-    // The verb that a word is; one that measures has its edition in the word after it.
+    // The verb that a word is; one that measures has its edition in the word after it, so that a verb is not
+    // read from one word by `FromStr`.
     pub(crate) fn read(word: &str, words: &mut SplitWhitespace<'_>) -> Option<Verb> {
-        match Verb::plain(word) {
-            Some(verb) => Some(verb),
-            None => Verb::measuring(word, named(words.next()?)?),
-        }
+        Some(match word {
+            "tables" => Verb::Tables,
+            "open" => Verb::Open,
+            "enrol" => Verb::Enrol,
+            "figures" => Verb::Figures,
+            "load" => Verb::Load,
+            "resource" => Verb::Resource,
+            "trade" => Verb::Trade,
+            "void" => Verb::Void,
+            "short" => Verb::Short(named(words.next()?)?),
+            "cover" => Verb::Cover,
+            "strike" => Verb::Strike(named(words.next()?)?),
+            "share" => Verb::Share,
+            "claim" => Verb::Claim,
+            "charge" => Verb::Charge,
+            "hand_back" => Verb::HandBack,
+            "reopen" => Verb::Reopen,
+            _ => return None,
+        })
     }
+}
 
-    fn measuring(word: &str, edition: Edition) -> Option<Verb> {
-        match word {
-            "short" => Some(Verb::Short(edition)),
-            "strike" => Some(Verb::Strike(edition)),
-            _ => None,
-        }
-    }
-
-    fn plain(word: &str) -> Option<Verb> {
-        match word {
-            "tables" => Some(Verb::Tables),
-            "open" => Some(Verb::Open),
-            "enrol" => Some(Verb::Enrol),
-            "figures" => Some(Verb::Figures),
-            "load" => Some(Verb::Load),
-            "resource" => Some(Verb::Resource),
-            "trade" => Some(Verb::Trade),
-            "void" => Some(Verb::Void),
-            "cover" => Some(Verb::Cover),
-            "share" => Some(Verb::Share),
-            "claim" => Some(Verb::Claim),
-            "charge" => Some(Verb::Charge),
-            "hand_back" => Some(Verb::HandBack),
-            "reopen" => Some(Verb::Reopen),
-            _ => None,
-        }
-    }
-
-    pub(crate) fn word(self) -> &'static str {
-        match self {
+impl fmt::Display for Verb {
+    fn fmt<W: fmt::Write>(&self, f: &mut fmt::Formatter<W>) -> fmt::Result {
+        f.write_str(match *self {
             Verb::Tables => "tables",
             Verb::Open => "open",
             Verb::Enrol => "enrol",
@@ -78,6 +69,6 @@ impl Verb {
             Verb::Charge => "charge",
             Verb::HandBack => "hand_back",
             Verb::Reopen => "reopen",
-        }
+        })
     }
 }

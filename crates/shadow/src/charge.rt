@@ -10,10 +10,10 @@ use rows::qse::QseRow;
 use shortfall::strike::write_shortfalls;
 use std::io;
 
-pub fn charge<'a>(
+pub(crate) fn charge(
     rt: &HostRuntime,
     rows: &[QseRow],
-    tables: Tables<'a>,
+    tables: Tables,
     pot: u32,
 ) -> io::Result<()> {
     report_charge(rt, "grouped", &Grouped {}, rows, tables, pot)?;
@@ -36,17 +36,12 @@ fn report_charge<M: Measure>(
 ) -> io::Result<()> {
     let mut own = rows.to_vec(rt.alloc())?;
     match settle(m, own.as_mut_slice(), tables, pot) {
-        Err(fault) => {
-            let refusal = Refusal::Fault(fault);
-            println!(rt; "cost {pot} {edition} {refusal}")
-        }
+        Err(fault) => println!(rt; "cost {pot} {edition} {}", Refusal::Fault(fault)),
         Ok(0) => println!(rt; "cost {pot} {edition} undivided: nobody is short"),
         Ok(_) => {
             println!(rt; "cost {pot} {edition}")?;
             for row in own.as_slice() {
-                let number = row.number;
-                let cents = row.cents;
-                println!(rt; "  qse {number} cents {cents}")?;
+                println!(rt; "  qse {} cents {}", row.number, row.cents)?;
             }
             Ok(())
         }

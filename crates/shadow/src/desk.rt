@@ -18,7 +18,7 @@ use std::alloc::Global;
 // Most QSEs of one interval.
 const MAX_QSES: usize = 64;
 
-const MAX_COST: i64 = 1_000_000_000;
+const MAX_COST: u32 = 1_000_000_000;
 
 #[derive(Drop)]
 pub struct Desk {
@@ -29,8 +29,13 @@ pub struct Desk {
     pub cost: Option<u32>,
 }
 
-fn place(free: bool) -> Result<(), Fault> {
-    if free { Ok(()) } else { Err(Fault::NoPlace) }
+// A row more, unless the table has its most.
+fn append<T: Drop>(table: &mut Vec<T>, most: usize, row: T) -> Result<(), Refusal> {
+    if table.len() >= most {
+        return Err(Refusal::Fault(Fault::NoPlace));
+    }
+    table.push(row)?;
+    Ok(())
 }
 
 // A QSE with these figures, short of nothing and charged with nothing.
@@ -47,7 +52,7 @@ fn enrolled(number: u16, figures: Figures) -> Result<QseRow, Fault> {
 }
 
 impl Desk {
-    pub fn new(heap: Global) -> Desk {
+    pub(crate) fn new(heap: Global) -> Desk {
         Desk {
             qses: Vec::new(heap),
             loads: Vec::new(heap),
@@ -58,65 +63,54 @@ impl Desk {
     }
 
     fn known(&self, qse: u16) -> Result<(), Fault> {
-        for q in self.qses.as_slice() {
-            if q.number == qse {
-                return Ok(());
-            }
+        if self.qses.iter().any(|q| q.number == qse) {
+            Ok(())
+        } else {
+            Err(Fault::NotEnrolled)
         }
-        Err(Fault::NotEnrolled)
     }
 
     // The figures of a new QSE, or in place of its old ones.
-    pub fn figures(&mut self, list: &[i64]) -> Result<(), Refusal> {
+    pub(crate) fn figures(&mut self, list: &[i64]) -> Result<(), Refusal> {
         let (number, figures) = figures_row(list)?;
-        for q in self.qses.as_mut_slice().iter_mut() {
-            if q.number == number {
-                q.figures = figures;
-                return Ok(());
-            }
+        if let Some(q) = self.qses.iter_mut().find(|q| q.number == number) {
+            q.figures = figures;
+            return Ok(());
         }
-        place(self.qses.len() < MAX_QSES)?;
-        self.qses.push(enrolled(number, figures)?)?;
-        Ok(())
+        append(&mut self.qses, MAX_QSES, enrolled(number, figures)?)
     }
 
-    pub fn load(&mut self, list: &[i64]) -> Result<(), Refusal> {
+    pub(crate) fn load(&mut self, list: &[i64]) -> Result<(), Refusal> {
         let row = load_row(list)?;
         self.known(row.qse)?;
-        place(self.loads.len() < MAX_ROWS)?;
-        self.loads.push(row)?;
-        Ok(())
+        append(&mut self.loads, MAX_ROWS, row)
     }
 
-    pub fn resource(&mut self, list: &[i64]) -> Result<(), Refusal> {
+    pub(crate) fn resource(&mut self, list: &[i64]) -> Result<(), Refusal> {
         let row = resource_row(list)?;
         self.known(row.qse)?;
-        place(self.resources.len() < MAX_ROWS)?;
-        self.resources.push(row)?;
-        Ok(())
+        append(&mut self.resources, MAX_ROWS, row)
     }
 
-    pub fn trade(&mut self, list: &[i64]) -> Result<(), Refusal> {
+    pub(crate) fn trade(&mut self, list: &[i64]) -> Result<(), Refusal> {
         let row = trade_row(list)?;
         self.known(row.seller)?;
         self.known(row.buyer)?;
         if row.seller == row.buyer {
             return Err(Refusal::Fault(Fault::BuyerIsSeller));
         }
-        place(self.trades.len() < MAX_ROWS)?;
-        self.trades.push(row)?;
-        Ok(())
+        append(&mut self.trades, MAX_ROWS, row)
     }
 
     // The cost to divide, in cents; a later one takes its place.
-    pub fn set_cost(&mut self, list: &[i64]) -> Result<(), Refusal> {
+    pub(crate) fn set_cost(&mut self, list: &[i64]) -> Result<(), Refusal> {
         let [cents] = list else {
             return Err(Refusal::Fault(Fault::WrongLength));
         };
-        if *cents < 1 || *cents > MAX_COST {
-            return Err(Refusal::Fault(Fault::OutOfLimits { place: 1 }));
-        }
-        self.cost = Some(*cents as u32);
+        let cost = u32::try_from(*cents)
+            .ok()
+            .filter(|cost| 1 <= *cost && *cost <= MAX_COST);
+        self.cost = Some(cost.ok_or(Fault::OutOfLimits { place: 1 })?);
         Ok(())
     }
 }

@@ -4,8 +4,6 @@ use std::alloc::Global;
 
 #[derive(Drop)]
 pub enum Input {
-    // a blank line, or one that begins with #
-    Nothing,
     Figures(Vec<i64>),
     Load(Vec<i64>),
     Resource(Vec<i64>),
@@ -13,27 +11,25 @@ pub enum Input {
     Cost(Vec<i64>),
 }
 
-pub fn read(heap: Global, text: &str) -> Result<Input, Refusal> {
+// Nothing where the line is blank or begins with #.
+pub(crate) fn read(heap: Global, text: &str) -> Result<Option<Input>, Refusal> {
     let mut words = text.split_whitespace();
     let Some(first) = words.next() else {
-        return Ok(Input::Nothing);
+        return Ok(None);
     };
     if first.starts_with('#') {
-        return Ok(Input::Nothing);
+        return Ok(None);
     }
     let mut numbers = Vec::new(heap);
     for word in words {
-        match word.parse::<i64>() {
-            Ok(n) => numbers.push(n)?,
-            Err(_) => return Err(Refusal::Unreadable),
-        }
+        numbers.push(word.parse::<i64>().ok().ok_or(Refusal::Unreadable)?)?;
     }
-    match first {
-        "figures" => Ok(Input::Figures(numbers)),
-        "load" => Ok(Input::Load(numbers)),
-        "resource" => Ok(Input::Resource(numbers)),
-        "trade" => Ok(Input::Trade(numbers)),
-        "cost" => Ok(Input::Cost(numbers)),
-        _ => Err(Refusal::Unreadable),
-    }
+    Ok(Some(match first {
+        "figures" => Input::Figures(numbers),
+        "load" => Input::Load(numbers),
+        "resource" => Input::Resource(numbers),
+        "trade" => Input::Trade(numbers),
+        "cost" => Input::Cost(numbers),
+        _ => return Err(Refusal::Unreadable),
+    }))
 }

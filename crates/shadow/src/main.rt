@@ -20,9 +20,8 @@ use std::io::{BufRead, BufReader};
 fn main(rt: HostRuntime) -> io::Result<()> {
     let heap = rt.alloc();
     let mut desk = Desk::new(heap);
-    let mut number = 0u64;
-    for line in BufReader::new(heap, rt.stdin())?.lines(heap) {
-        number = number.saturating_add(1);
+    let lines = BufReader::new(heap, rt.stdin())?.lines(heap);
+    for (number, line) in (1u64..).zip(lines) {
         let text = line?;
         if let Err(refusal) = enter(&mut desk, heap, text.as_str()) {
             println!(rt; "line {number} {refusal}")?;
@@ -33,8 +32,10 @@ fn main(rt: HostRuntime) -> io::Result<()> {
 
 // One line of the input: a row entered, the cost set, or nothing.
 fn enter(desk: &mut Desk, heap: Global, text: &str) -> Result<(), Refusal> {
-    match read(heap, text)? {
-        Input::Nothing => Ok(()),
+    let Some(input) = read(heap, text)? else {
+        return Ok(());
+    };
+    match input {
         Input::Figures(list) => desk.figures(list.as_slice()),
         Input::Load(list) => desk.load(list.as_slice()),
         Input::Resource(list) => desk.resource(list.as_slice()),

@@ -1,14 +1,7 @@
-// The market's names of the sub-types.
-pub fn name_of(place: usize) -> &'static str {
-    match place {
-        0 => "RU",
-        1 => "RD",
-        2 => "PFR",
-        3 => "UFR",
-        4 => "FFR",
-        5 => "ECS",
-        6 => "ECM",
-        7 => "NSS",
-        _ => "NSM",
-    }
+// The market's names of the sub-types, in their order.
+pub(crate) const NAMES: [&str; 9] = ["RU", "RD", "PFR", "UFR", "FFR", "ECS", "ECM", "NSS", "NSM"];
+
+// The name at a place; past the nine there is none.
+pub(crate) fn name_of(place: usize) -> &'static str {
+    NAMES.get(place).copied().unwrap_or("none")
 }

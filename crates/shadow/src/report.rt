@@ -12,7 +12,7 @@ use shortfall::total::total_short;
 use std::io;
 
 // Each QSE on both sides under both editions, the totals, and the division of the cost.
-pub fn report(rt: &HostRuntime, desk: &Desk) -> io::Result<()> {
+pub(crate) fn report(rt: &HostRuntime, desk: &Desk) -> io::Result<()> {
     let found = Tables::new(
         desk.loads.as_slice(),
         desk.resources.as_slice(),
@@ -35,20 +35,15 @@ pub fn report(rt: &HostRuntime, desk: &Desk) -> io::Result<()> {
 fn report_qses<'a>(rt: &HostRuntime, rows: &'a [QseRow], tables: Tables<'a>) -> io::Result<()> {
     let mut table = vec![in rt.alloc(); [0u32; 14]; 512]?;
     for row in rows {
-        let number = row.number;
-        println!(rt; "qse {number}")?;
-        report_side(
-            rt,
-            "snapshot",
-            &Account::new(row, Side::Snapshot, tables),
-            table.as_mut_slice(),
-        )?;
-        report_side(
-            rt,
-            "adjusted",
-            &Account::new(row, Side::Adjusted, tables),
-            table.as_mut_slice(),
-        )?;
+        println!(rt; "qse {}", row.number)?;
+        for (word, side) in [("snapshot", Side::Snapshot), ("adjusted", Side::Adjusted)] {
+            report_side(
+                rt,
+                word,
+                &Account::new(row, side, tables),
+                table.as_mut_slice(),
+            )?;
+        }
         let grouped = short_of(&Grouped {}, row, tables);
         let sub_type = short_of(&SubType {}, row, tables);
         println!(rt; "  shortfall grouped {grouped} subtype {sub_type}")?;

@@ -1,5 +1,5 @@
 // A QSE on one side: its figures, both editions, and the cover of its reserves.
-use super::names::name_of;
+use super::names::{NAMES, name_of};
 use account::account::Account;
 use cover::binding::binding_set;
 use cover::covering::cover;
@@ -14,16 +14,14 @@ use measure::storage_net::StorageNet;
 use measure::totals::Totals;
 use std::io;
 
-pub fn report_side(
+pub(crate) fn report_side(
     rt: &HostRuntime,
     side: &str,
     a: &Account,
     table: &mut [[u32; 14]],
 ) -> io::Result<()> {
     let parts = break_down(a);
-    let load = parts.load;
-    let net = parts.net;
-    println!(rt; "  {side} load {load} net {net}")?;
+    println!(rt; "  {side} load {} net {}", parts.load, parts.net)?;
     report_grouped(rt, &parts)?;
     let overall = sub_type_overall(a);
     let value = SubType {}.value(a);
@@ -53,34 +51,23 @@ fn sub_type_overall(a: &Account) -> u64 {
 
 fn report_grouped(rt: &HostRuntime, parts: &Breakdown) -> io::Result<()> {
     let Breakdown {
-        load: _,
-        net: _,
         overall,
         levels,
         reserve,
         value,
+        ..
     } = *parts;
-    let reg_up = levels.reg_up;
-    let rrs = levels.rrs;
-    let fast = levels.fast;
-    let ecrs = levels.with_ecrs;
-    let upward = levels.upward;
-    let reg_down = levels.reg_down;
     println!(rt;
-        "    grouped overall {overall} levels {reg_up} {rrs} {fast} {ecrs} {upward} {reg_down} reserve {reserve} value {value}"
+        "    grouped overall {overall} levels {} {} {} {} {} {} reserve {reserve} value {value}",
+        levels.reg_up, levels.rrs, levels.fast, levels.with_ecrs, levels.upward, levels.reg_down
     )
 }
 
 // A line for each unit of the QSE, counted from 1, that serves a reserve.
 fn report_cover(rt: &HostRuntime, a: &Account, table: &[[u32; 14]]) -> io::Result<()> {
-    let mut unit = 0usize;
-    for row in a.resources {
-        if row.qse == a.qse {
-            if unit < table.len() {
-                report_unit(rt, unit.saturating_add(1), &table[unit])?;
-            }
-            unit = unit.saturating_add(1);
-        }
+    let units = a.resources.iter().filter(|row| row.qse == a.qse).count();
+    for (unit, amounts) in (1usize..).zip(table.iter().take(units)) {
+        report_unit(rt, unit, amounts)?;
     }
     Ok(())
 }
@@ -88,8 +75,7 @@ fn report_cover(rt: &HostRuntime, a: &Account, table: &[[u32; 14]]) -> io::Resul
 fn report_unit(rt: &HostRuntime, unit: usize, amounts: &[u32; 14]) -> io::Result<()> {
     for (amount, (capability, position)) in amounts.iter().zip(PAIRS.iter()) {
         if *amount > 0 {
-            let from = name_of(*capability);
-            let to = name_of(*position);
+            let (from, to) = (name_of(*capability), name_of(*position));
             println!(rt; "    unit {unit} covers {to} {amount} from {from}")?;
         }
     }
@@ -99,12 +85,13 @@ fn report_unit(rt: &HostRuntime, unit: usize, amounts: &[u32; 14]) -> io::Result
 // The services whose positions, together, no cover can meet.
 fn report_binding(rt: &HostRuntime, a: &Account) -> io::Result<()> {
     let binding = binding_set(a);
-    let lack = binding.lack;
-    print!(rt; "    short of reserves by {lack} kW: the services that bind are")?;
-    for (place, binds) in binding.services.iter().enumerate() {
+    print!(rt;
+        "    short of reserves by {} kW: the services that bind are",
+        binding.lack
+    )?;
+    for (name, binds) in NAMES.iter().zip(binding.services.iter()) {
         if *binds {
-            let service = name_of(place);
-            print!(rt; " {service}")?;
+            print!(rt; " {name}")?;
         }
     }
     println!(rt; "")

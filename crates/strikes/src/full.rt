@@ -1,9 +1,8 @@
 // A full book: as many QSEs and rows as it takes.
-use super::draws::Draws;
-use super::entered::entered;
-use super::lists::{figures, load, trade, unit};
 use anyhow::{Context, anyhow};
 use book::books::OpenBook;
+use drawn::draws::Draws;
+use drawn::entered::entered;
 use entry::load::load_row;
 use entry::resource::resource_row;
 use entry::trade::trade_row;
@@ -30,37 +29,17 @@ pub struct Lent {
     trades: Vec<TradeRow>,
 }
 
-fn some_resource(heap: Global, draws: &mut Draws) -> anyhow::Result<ResourceRow> {
-    match resource_row(unit(heap, draws, 1)?.as_slice()) {
-        Ok(row) => Ok(row),
-        Err(_) => Err(anyhow!("a unit is refused")),
-    }
-}
-
-fn some_load(heap: Global, draws: &mut Draws) -> anyhow::Result<LoadRow> {
-    match load_row(load(heap, draws, 1)?.as_slice()) {
-        Ok(row) => Ok(row),
-        Err(_) => Err(anyhow!("a load is refused")),
-    }
-}
-
-fn some_trade(heap: Global, draws: &mut Draws) -> anyhow::Result<TradeRow> {
-    match trade_row(trade(heap, draws, 1, 2)?.as_slice()) {
-        Ok(row) => Ok(row),
-        Err(_) => Err(anyhow!("a trade is refused")),
-    }
-}
-
 // Places for a full book, each held by some row until the book's own is entered.
 fn places(heap: Global, draws: &mut Draws) -> anyhow::Result<Lent> {
-    let Ok(qse) = entered(figures(heap, draws, 1, ROWS_EACH)?.as_slice()) else {
-        return Err(anyhow!("the figures are refused"));
-    };
+    let qse = entered(draws.figures(1, ROWS_EACH)?.as_slice());
+    let load = load_row(draws.load(1)?.as_slice());
+    let resource = resource_row(draws.unit(1)?.as_slice());
+    let trade = trade_row(draws.trade(1, 2)?.as_slice());
     Ok(Lent {
-        qses: vec![in heap; qse; 64]?,
-        loads: vec![in heap; some_load(heap, draws)?; 512]?,
-        resources: vec![in heap; some_resource(heap, draws)?; 512]?,
-        trades: vec![in heap; some_trade(heap, draws)?; 512]?,
+        qses: vec![in heap; qse.ok().context("the figures are refused")?; 64]?,
+        loads: vec![in heap; load.ok().context("a load is refused")?; 512]?,
+        resources: vec![in heap; resource.ok().context("a unit is refused")?; 512]?,
+        trades: vec![in heap; trade.ok().context("a trade is refused")?; 512]?,
     })
 }
 
@@ -73,7 +52,7 @@ impl Lent {
         let enrolled = book.enrol(qses, loads, resources, trades, number);
         enrolled.ok().context("a QSE is refused")?;
         let figured = book.figures(qses, loads, resources, trades, list);
-        Ok(figured.ok().context("the figures are refused")?)
+        figured.ok().context("the figures are refused")
     }
 
     fn load(&mut self, book: &mut OpenBook, list: &[i64]) -> anyhow::Result<()> {
@@ -84,7 +63,7 @@ impl Lent {
             self.trades.as_slice(),
             list,
         );
-        Ok(done.ok().context("a load is refused")?)
+        done.ok().context("a load is refused")
     }
 
     fn resource(&mut self, book: &mut OpenBook, list: &[i64]) -> anyhow::Result<()> {
@@ -95,7 +74,7 @@ impl Lent {
             self.trades.as_slice(),
             list,
         );
-        Ok(done.ok().context("a unit is refused")?)
+        done.ok().context("a unit is refused")
     }
 
     fn trade(&mut self, book: &mut OpenBook, list: &[i64]) -> anyhow::Result<()> {
@@ -111,19 +90,13 @@ impl Lent {
     }
 
     // A load, a unit and a trade more for every QSE.
-    fn round(
-        &mut self,
-        heap: Global,
-        draws: &mut Draws,
-        book: &mut OpenBook,
-    ) -> anyhow::Result<()> {
+    fn round(&mut self, draws: &mut Draws, book: &mut OpenBook) -> anyhow::Result<()> {
         for place in 0..QSES {
             let qse = i64::from(place) + 1;
-            let other = (i64::from(place) + 1 + i64::from(draws.up_to(QSES - 2))) % i64::from(QSES)
-                + 1;
-            self.load(book, load(heap, draws, qse)?.as_slice())?;
-            self.resource(book, unit(heap, draws, qse)?.as_slice())?;
-            self.trade(book, trade(heap, draws, qse, other)?.as_slice())?;
+            let other = i64::from((place + 1 + draws.up_to(QSES - 2)) % QSES) + 1;
+            self.load(book, draws.load(qse)?.as_slice())?;
+            self.resource(book, draws.unit(qse)?.as_slice())?;
+            self.trade(book, draws.trade(qse, other)?.as_slice())?;
         }
         Ok(())
     }
@@ -137,10 +110,9 @@ impl Lent {
         let (loads, resources) = (self.loads.as_slice(), self.resources.as_slice());
         let trades = self.trades.as_slice();
         let struck = book.strike(m, self.qses.as_mut_slice(), loads, resources, trades);
-        let Ok(pair) = struck else {
+        let Ok((book, total)) = struck else {
             return Err(anyhow!("the strike is refused"));
         };
-        let (book, total) = pair;
         let Ok(book) = book.reopen(self.qses.as_slice(), loads, resources, trades) else {
             return Err(anyhow!("the book stays struck"));
         };
@@ -149,18 +121,15 @@ impl Lent {
 }
 
 pub(crate) fn drawn(heap: Global) -> anyhow::Result<(OpenBook, Lent)> {
-    let mut draws = Draws::new(SEED);
+    let mut draws = Draws::new(heap, SEED);
     let mut lent = places(heap, &mut draws)?;
-    let Ok(mut book) = OpenBook::open(1) else {
-        return Err(anyhow!("the book is refused"));
-    };
+    let mut book = OpenBook::open(1).ok().context("the book is refused")?;
     for place in 0..QSES {
         let qse = i64::from(place) + 1;
-        let list = figures(heap, &mut draws, qse, ROWS_EACH)?;
-        lent.enrol(&mut book, qse, list.as_slice())?;
+        lent.enrol(&mut book, qse, draws.figures(qse, ROWS_EACH)?.as_slice())?;
     }
     for _ in 0..ROWS_EACH {
-        lent.round(heap, &mut draws, &mut book)?;
+        lent.round(&mut draws, &mut book)?;
     }
     Ok((book, lent))
 }

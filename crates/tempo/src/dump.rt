@@ -12,13 +12,11 @@ fn print_line(rt: &HostRuntime, room: u32, capability: &[u32; 9]) -> io::Result<
 }
 
 // The positions as they count; then of each line the room and the capabilities.
-pub fn dump(rt: &HostRuntime, fleet: &Fleet) -> anyhow::Result<()> {
+pub(crate) fn dump(rt: &HostRuntime, fleet: &Fleet) -> anyhow::Result<()> {
     let tables = fleet.tables()?;
     let account = fleet.account(tables, 0);
-    let standing = account.standing();
-    for position in &standing.positions {
-        let kw = not_below_zero(*position);
-        print!(rt; "{kw} ")?;
+    for position in &account.standing().positions {
+        print!(rt; "{} ", not_below_zero(*position))?;
     }
     println!(rt; "")?;
     for row in tables.resources {

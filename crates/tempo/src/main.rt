@@ -1,15 +1,13 @@
 // tempo: how long the measures and the cover of an account take.
 #![tactic(auto)]
 
-mod draws;
 mod dump;
 mod fleet;
-mod lists;
 mod timing;
 mod work;
 
 use account::counted::not_below_zero;
-use anyhow::anyhow;
+use anyhow::{Context, anyhow};
 use cover::sub_type::SubType;
 use dump::dump;
 use fleet::Fleet;
@@ -29,9 +27,7 @@ fn run(rt: &HostRuntime) -> anyhow::Result<()> {
     let Some(first) = words.next() else {
         return time_all(rt);
     };
-    let Some(count) = words.next() else {
-        return Err(anyhow!("a number of units is missing"));
-    };
+    let count = words.next().context("a number of units is missing")?;
     if first.as_str() != "dump" {
         return Err(anyhow!("the word is not dump"));
     }
@@ -49,31 +45,20 @@ fn time_all(rt: &HostRuntime) -> anyhow::Result<()> {
 // The sum of the positions as they count.
 fn owed(fleet: &Fleet) -> anyhow::Result<u64> {
     let standing = fleet.account(fleet.tables()?, 0).standing();
-    let mut sum = 0u64;
-    for position in &standing.positions {
-        sum = sum.saturating_add(not_below_zero(*position));
-    }
-    Ok(sum)
+    Ok(
+        standing.positions.iter().fold(
+            0u64,
+            |sum, position| sum.saturating_add(not_below_zero(*position)),
+        ),
+    )
 }
 
 // Answers go to the output and times, in microseconds, to the error output.
 fn time_one(rt: &HostRuntime, fleet: &Fleet) -> anyhow::Result<()> {
     let units = fleet.size();
     let mut covered = Covered::new(rt.alloc(), units)?;
-    let grouped = timed(
-        rt,
-        fleet,
-        &mut Valued {
-            measure: Grouped {},
-        },
-    )?;
-    let sub_type = timed(
-        rt,
-        fleet,
-        &mut Valued {
-            measure: SubType {},
-        },
-    )?;
+    let grouped = timed(rt, fleet, &mut Valued(Grouped {}))?;
+    let sub_type = timed(rt, fleet, &mut Valued(SubType {}))?;
     let cover = timed(rt, fleet, &mut covered)?;
     if covered.given().saturating_add(cover.answer) != owed(fleet)? {
         return Err(anyhow!("the cover does not add up"));

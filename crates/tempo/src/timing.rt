@@ -30,7 +30,11 @@ fn micros_of(span: Duration, calls: usize) -> f64 {
     span.as_secs_f64() * 1e6 / std::num::nearest_u64_to_f64(calls as u64)
 }
 
-pub fn timed<W: Work>(rt: &HostRuntime, fleet: &Fleet, work: &mut W) -> anyhow::Result<Taken> {
+pub(crate) fn timed<W: Work>(
+    rt: &HostRuntime,
+    fleet: &Fleet,
+    work: &mut W,
+) -> anyhow::Result<Taken> {
     let calls = BATCH / fleet.size().max(1);
     let mut answer = 0u64;
     let mut least = Duration::MAX;

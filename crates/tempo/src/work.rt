@@ -8,14 +8,13 @@ pub trait Work {
     fn run(&mut self, a: &Account) -> Option<u64>;
 }
 
+// The value of a measure.
 #[derive(Clone, Copy)]
-pub struct Valued<M> {
-    pub measure: M,
-}
+pub struct Valued<M>(pub M);
 
 impl<M: Measure> Work for Valued<M> {
     fn run(&mut self, a: &Account) -> Option<u64> {
-        Some(self.measure.value(a))
+        Some(self.0.value(a))
     }
 }
 
@@ -25,21 +24,18 @@ pub struct Covered {
 }
 
 impl Covered {
-    pub fn new(heap: Global, lines: usize) -> Result<Covered, AllocError> {
+    pub(crate) fn new(heap: Global, lines: usize) -> Result<Covered, AllocError> {
         Ok(Covered {
             rows: vec![in heap; [0; 14]; lines]?,
         })
     }
 
     // The sum of what the last cover gives.
-    pub fn given(&self) -> u64 {
-        let mut sum = 0u64;
-        for row in self.rows.as_slice() {
-            for amount in row {
-                sum = sum.saturating_add(u64::from(*amount));
-            }
-        }
-        sum
+    pub(crate) fn given(&self) -> u64 {
+        let amounts = self.rows.as_slice().as_flattened();
+        amounts
+            .iter()
+            .fold(0u64, |sum, amount| sum.saturating_add(u64::from(*amount)))
     }
 }
 

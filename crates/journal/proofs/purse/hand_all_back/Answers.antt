@@ -1,32 +1,14 @@
 use Rattle.std.proofs.Common.{[], ◌∷◌, ◌++◌, vec_items, refl, ap, ◌∙◌, subst}
-use Rattle.book.specs.State.{state_of, struck_book}
-use Rattle.replay.specs.Guarantee.{Holding}
-use Rattle.replay.specs.Runs.{desk_of}
-use Rattle.replay.proofs.Emptied.{front_held, last_ours, some_out, back_held}
+use Rattle.book.specs.State.{struck_book}
+use Rattle.replay.proofs.Emptied.{back_held}
+use Rattle.journal.specs.Kept.{Kept, state_at}
 use Rattle.journal.proofs.purse.hand_all_back.Goals as goal
 
-pub loop-place-preserved-in-None : goal.loop-place-preserved-in-None
-loop-place-preserved-in-None c =
+pub loop-place-preserved-in-Some-place : goal.loop-place-preserved-in-Some-place
+loop-place-preserved-in-Some-place c =
     let p = vec_items c.pop.new.self in
     let b = struck_book c.loop-place.book in
-    let items = c.in-Some.ensures.items ∙ ap (λ o. p ++ o ∷ []) c.in-None.is in
-    front_held (state_of b c.args.qses.now c.args.loads.now c.args.resources.now c.args.trades.now) p
-    (subst (λ l. Holding (desk_of b c.args.qses.now c.args.loads.now c.args.resources.now c.args.trades.now [] l)) items c.loop-place.invariant)
-
-pub hand_back-requires : goal.hand_back-requires
-hand_back-requires c =
-    let p = vec_items c.pop.new.self in
-    let b = struck_book c.loop-place.book in
-    let s = state_of b c.args.qses.now c.args.loads.now c.args.resources.now c.args.trades.now in
+    let s = state_at b c.args.desk.now in
     let items = c.in-Some.ensures.items ∙ ap (λ o. p ++ o ∷ []) c.in-Some-place.is in
-    let held = subst (λ l. Holding (desk_of b c.args.qses.now c.args.loads.now c.args.resources.now c.args.trades.now [] l)) items c.loop-place.invariant in
-    record { ours = last_ours s p c.in-Some-place.claim held; some = some_out s p c.in-Some-place.claim held; long = c.loop-place.invariant.long }
-
-pub loop-place-preserved : goal.loop-place-preserved
-loop-place-preserved c =
-    let p = vec_items c.pop.new.self in
-    let b = struck_book c.loop-place.book in
-    let s = state_of b c.args.qses.now c.args.loads.now c.args.resources.now c.args.trades.now in
-    let items = c.in-Some.ensures.items ∙ ap (λ o. p ++ o ∷ []) c.in-Some-place.is in
-    let held = subst (λ l. Holding (desk_of b c.args.qses.now c.args.loads.now c.args.resources.now c.args.trades.now [] l)) items c.loop-place.invariant in
+    let held = subst (Kept b c.args.desk.now) items c.loop-place.invariant in
     back_held s p c.in-Some-place.claim held (struck_book c.hand_back.new.book) refl c.hand_back.ensures

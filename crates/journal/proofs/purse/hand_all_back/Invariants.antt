@@ -1,11 +1,10 @@
-use Rattle.std.proofs.Common.{[], vec_items, vec_len}
+use Rattle.std.proofs.Common.{vec_items, vec_len}
 use Rattle.book.specs.State.{struck_book}
-use Rattle.replay.specs.Guarantee.{Holding}
-use Rattle.replay.specs.Runs.{desk_of}
+use Rattle.journal.specs.Kept.{Kept}
 use Rattle.journal.proofs.purse.hand_all_back.Given as goal
 
 abbrev pub invariant-loop-place : goal.invariant-loop-place
-invariant-loop-place l = Holding (desk_of (struck_book l.book) l.qses l.loads l.resources l.trades [] (vec_items l.purse))
+invariant-loop-place l = Kept (struck_book l.book) l.desk (vec_items l.purse)
 
 abbrev pub decreases-loop-place : goal.decreases-loop-place
 decreases-loop-place l = vec_len l.purse

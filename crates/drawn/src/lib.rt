@@ -1,0 +1,12 @@
+// QSEs and rows that look drawn and are the same in every run, as lists that can be entered.
+#![tactic(auto)]
+
+mod codes;
+pub mod draws;
+pub mod entered;
+mod figures;
+mod load;
+#[cfg(test)]
+mod tests;
+mod trade;
+mod unit;
