@@ -3,7 +3,6 @@
 
 mod codes;
 pub mod draws;
-pub mod entered;
 mod figures;
 mod load;
 #[cfg(test)]

@@ -1,6 +1,6 @@
 // Each list once. The numbers were found apart from this crate, by the rule of the draws alone.
 use super::draws::Draws;
-use super::entered::entered;
+use entry::qse::qse_row;
 use std::alloc::AllocError;
 
 const SEED: u64 = 7;
@@ -44,7 +44,7 @@ fn trade(rt: HostRuntime) -> Result<(), AllocError> {
 fn figures(rt: HostRuntime) -> Result<(), AllocError> {
     let list = Draws::new(rt.alloc(), SEED).figures(5, 3)?;
     assert_eq!(rt; list.as_slice(), FIGURES.as_slice());
-    let number = entered(list.as_slice()).ok().map(|row| row.number);
+    let number = qse_row(list.as_slice()).ok().map(|row| row.number);
     assert_eq!(rt; number, Some(5));
     Ok(())
 }

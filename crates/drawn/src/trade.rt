@@ -4,7 +4,7 @@ ghost use Rattle.rows.specs.Codes.{sides_number as sides_code, sub_number, trade
 ghost use Rattle.drawn.specs.Draws.{next_state, number_at};
 ghost use Rattle.drawn.specs.Lists.{drawn_trade};
 
-use super::codes::{sides_number, traded_number};
+use super::codes::traded_number;
 use super::draws::Draws;
 use rows::codes::{Sides, SubType, Traded};
 use std::alloc::AllocError;
@@ -66,7 +66,7 @@ impl Draws {
         Ok(vec![in self.heap;
             traded_number(traded),
             traded.sub_type_number() as i64,
-            sides_number(sides),
+            sides as i64,
             seller,
             buyer,
             kw,

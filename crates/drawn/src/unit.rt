@@ -3,7 +3,7 @@ ghost use Rattle.std.specs.Prelude.{◌≡◌, IfOk, pos};
 ghost use Rattle.drawn.specs.Draws.{next_state};
 ghost use Rattle.drawn.specs.Lists.{amount_of, amount_state, amounts, drawn_kind, drawn_unit, drawn_unit_side, lsl_of, lsl_state};
 
-use super::codes::{SUB_TYPES, kind_number, status_number};
+use super::codes::SUB_TYPES;
 use super::draws::Draws;
 use rows::codes::{Kind, Status};
 use std::alloc::AllocError;
@@ -65,7 +65,7 @@ impl Draws {
         let hsl = self.up_to(600) + 200;
         let lsl = self.lsl(kind, hsl);
         let amounts = self.amounts()?;
-        let mut side = vec![in self.heap; status_number(Status::On), i64::from(hsl), lsl, 0]?;
+        let mut side = vec![in self.heap; Status::On as i64, i64::from(hsl), lsl, 0]?;
         side.extend_from_slice(amounts.as_slice())?; // offered
         side.extend_from_slice(amounts.as_slice())?; // in the COP
         side.extend_from_slice(amounts.as_slice())?; // qualified
@@ -77,7 +77,7 @@ impl Draws {
         ensures { IfOk result (λ l. l.items ≡ drawn_unit self.old.state qse) }
     {
         let kind = self.kind();
-        let mut list = vec![in self.heap; qse, kind_number(kind), 0, 0, 0]?;
+        let mut list = vec![in self.heap; qse, kind as i64, 0, 0, 0]?;
         let side = self.unit_side(kind)?;
         list.extend_from_slice(side.as_slice())?;
         list.extend_from_slice(side.as_slice())?;

@@ -2,9 +2,7 @@
 use super::lines::Line;
 use super::requests::Request;
 use replay::calls::{Answer, Entry};
-use rows::fault::Fault;
 use std::alloc::{AllocError, Global};
-use std::fmt;
 
 // The calls of the lines, in their order.
 pub(crate) fn calls_of<'a>(heap: Global, lines: &'a [Line]) -> Result<Vec<Entry<'a>>, AllocError> {
@@ -41,37 +39,7 @@ pub(crate) fn say_answers(
 // A line without an answer is unreadable.
 pub(crate) fn say(out: &mut String, line: &Line, answer: Option<Answer>) -> Result<(), AllocError> {
     match (line.verb, answer) {
-        (Some(verb), Some(answer)) => writeln!(out, "{} {verb} {}", line.number, Said(answer)),
+        (Some(verb), Some(answer)) => writeln!(out, "{} {verb} {answer}", line.number),
         _ => writeln!(out, "{} unreadable", line.number),
-    }
-}
-
-// An answer as it is printed; the type itself is another crate's.
-#[derive(Clone, Copy)]
-pub struct Said(Answer);
-
-impl fmt::Display for Said {
-    fn fmt<W: fmt::Write>(&self, f: &mut fmt::Formatter<W>) -> fmt::Result {
-        match self.0 {
-            Answer::NotAllowed => write!(f, "not allowed"),
-            Answer::Refused(fault) => say_fault(f, fault),
-            Answer::Granted => write!(f, "granted"),
-            Answer::Placed(place) => write!(f, "granted {place}"),
-            Answer::Shortfall(kw) => write!(f, "granted {kw}"),
-            Answer::Uncovered(kw) => write!(f, "granted {kw}"),
-            Answer::Total(kw) => write!(f, "granted {kw}"),
-            Answer::Shared(None) => write!(f, "granted none"),
-            Answer::Shared(Some((shortfall, total))) => write!(f, "granted {shortfall} {total}"),
-            Answer::Claimed(place) => write!(f, "granted {place}"),
-            Answer::Charged(pot, rest) => write!(f, "granted {pot} {rest}"),
-        }
-    }
-}
-
-fn say_fault<W: fmt::Write>(f: &mut fmt::Formatter<W>, fault: Fault) -> fmt::Result {
-    let number = fault.number();
-    match fault.place() {
-        Some(place) => write!(f, "refused {number} place {place}"),
-        None => write!(f, "refused {number}"),
     }
 }

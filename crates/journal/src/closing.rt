@@ -1,41 +1,26 @@
 // The last lines: what stands in the book.
 use super::desk::Desk;
-use book::books::Counts;
+use book::books::Ledger;
 use replay::calls::AnyBook;
 use rows::load::LoadRow;
 use rows::qse::QseRow;
 use std::alloc::AllocError;
 
-#[derive(Clone, Copy)]
-struct Held {
-    counts: Counts,
-    made: u16,
-    outstanding: u16,
-}
-
-fn held_by(book: &AnyBook) -> Held {
+fn ledger_of(book: &AnyBook) -> Ledger {
     match book {
-        AnyBook::Open(book) => Held {
-            counts: book.counts,
-            made: book.made,
-            outstanding: book.outstanding,
-        },
-        AnyBook::Struck(book) => Held {
-            counts: book.counts,
-            made: book.made,
-            outstanding: book.outstanding,
-        },
+        AnyBook::Open(open) => open.ledger,
+        AnyBook::Struck(struck) => struck.ledger,
     }
 }
 
 pub(crate) fn say_closing(out: &mut String, desk: &Desk, book: &AnyBook) -> Result<(), AllocError> {
-    let held = held_by(book);
-    say_qses(out, desk.qses.as_slice(), held.counts.qses)?;
-    say_loads(out, desk.loads.as_slice(), held.counts.loads)?;
+    let ledger = ledger_of(book);
+    say_qses(out, desk.qses.as_slice(), ledger.counts.qses)?;
+    say_loads(out, desk.loads.as_slice(), ledger.counts.loads)?;
     writeln!(
         out,
         "claims made {} outstanding {}",
-        held.made, held.outstanding
+        ledger.made, ledger.outstanding
     )
 }
 

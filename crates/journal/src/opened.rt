@@ -11,6 +11,6 @@ pub struct Opened<'a> {
     pub lengths: Lengths,
     // the lines after it
     pub rest: &'a [Line],
-    ghost unclaimed: { (book.made ≡ 0) × (book.outstanding ≡ 0) },
-    ghost rowless: { (book.counts.qses ≡ 0) × (book.counts.loads ≡ 0) × (book.counts.resources ≡ 0) × (book.counts.trades ≡ 0) },
+    ghost unclaimed: { (book.ledger.made ≡ 0) × (book.ledger.outstanding ≡ 0) },
+    ghost rowless: { (book.ledger.counts.qses ≡ 0) × (book.ledger.counts.loads ≡ 0) × (book.ledger.counts.resources ≡ 0) × (book.ledger.counts.trades ≡ 0) },
 }

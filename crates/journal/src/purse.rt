@@ -62,10 +62,10 @@ fn hand_all_back(mut purse: Vec<Option<Claim>>, mut book: StruckBook, desk: &Des
 
 // A book takes back each claim of its own.
 fn hand_back(book: &mut StruckBook, desk: &Desk, claim: Claim)
-    requires ours { claim.book ≡ book.old.number }
-    requires some { 0 < book.old.outstanding }
+    requires ours { claim.book ≡ book.old.ledger.number }
+    requires some { 0 < book.old.ledger.outstanding }
     requires long { Long (state_at (struck_book book.old) desk.now) }
-    ensures { struck_book book.new ≡ with_claims (struck_book book.old) book.old.made (book.old.outstanding - 1) }
+    ensures { struck_book book.new ≡ with_claims (struck_book book.old) book.old.ledger.made (book.old.ledger.outstanding - 1) }
 {
     match book.hand_back(
         desk.qses.as_slice(),

@@ -37,7 +37,7 @@ fn run_calls(
     purse: &mut Vec<Option<Claim>>,
     calls: &mut [Entry],
 ) -> AnyBook
-    requires opened { open_book book ≡ new_book book.number }
+    requires opened { open_book book ≡ new_book book.ledger.number }
     requires empty { claims_in purse.old.items ≡ 0 }
     ensures { Kept (any_book result) desk.new purse.new.items }
 {

@@ -2,12 +2,11 @@
 ghost use Rattle.std.specs.Prelude.{◌≤◌};
 
 use super::refusal::Refusal;
-use entry::figures::figures_row;
 use entry::load::load_row;
+use entry::qse::qse_row;
 use entry::resource::resource_row;
 use entry::trade::trade_row;
 use rows::fault::Fault;
-use rows::figures::Figures;
 use rows::limits::MAX_ROWS;
 use rows::load::LoadRow;
 use rows::qse::QseRow;
@@ -38,19 +37,6 @@ fn append<T: Drop>(table: &mut Vec<T>, most: usize, row: T) -> Result<(), Refusa
     Ok(())
 }
 
-// A QSE with these figures, short of nothing and charged with nothing.
-fn enrolled(number: u16, figures: Figures) -> Result<QseRow, Fault> {
-    if number == 0 {
-        return Err(Fault::OutOfLimits { place: 1 });
-    }
-    Ok(QseRow {
-        number,
-        figures,
-        shortfall: 0,
-        cents: 0,
-    })
-}
-
 impl Desk {
     pub(crate) fn new(heap: Global) -> Desk {
         Desk {
@@ -72,12 +58,12 @@ impl Desk {
 
     // The figures of a new QSE, or in place of its old ones.
     pub(crate) fn figures(&mut self, list: &[i64]) -> Result<(), Refusal> {
-        let (number, figures) = figures_row(list)?;
-        if let Some(q) = self.qses.iter_mut().find(|q| q.number == number) {
-            q.figures = figures;
+        let row = qse_row(list)?;
+        if let Some(q) = self.qses.iter_mut().find(|q| q.number == row.number) {
+            q.figures = row.figures;
             return Ok(());
         }
-        append(&mut self.qses, MAX_QSES, enrolled(number, figures)?)
+        append(&mut self.qses, MAX_QSES, row)
     }
 
     pub(crate) fn load(&mut self, list: &[i64]) -> Result<(), Refusal> {

@@ -47,12 +47,8 @@ impl fmt::Display for Refusal {
             Refusal::Unreadable => write!(f, "unreadable"),
             Refusal::NoMemory => write!(f, "found no memory"),
             Refusal::Fault(fault) => {
-                let n = fault.number();
                 let why = words(fault);
-                match fault.place() {
-                    Some(place) => write!(f, "refused {n} place {place}: {why}"),
-                    None => write!(f, "refused {n}: {why}"),
-                }
+                write!(f, "{fault}: {why}")
             }
         }
     }

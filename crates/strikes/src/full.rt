@@ -2,8 +2,8 @@
 use anyhow::{Context, anyhow};
 use book::books::OpenBook;
 use drawn::draws::Draws;
-use drawn::entered::entered;
 use entry::load::load_row;
+use entry::qse::qse_row;
 use entry::resource::resource_row;
 use entry::trade::trade_row;
 use measure::measure::Measure;
@@ -31,7 +31,7 @@ pub struct Lent {
 
 // Places for a full book, each held by some row until the book's own is entered.
 fn places(heap: Global, draws: &mut Draws) -> anyhow::Result<Lent> {
-    let qse = entered(draws.figures(1, ROWS_EACH)?.as_slice());
+    let qse = qse_row(draws.figures(1, ROWS_EACH)?.as_slice());
     let load = load_row(draws.load(1)?.as_slice());
     let resource = resource_row(draws.unit(1)?.as_slice());
     let trade = trade_row(draws.trade(1, 2)?.as_slice());

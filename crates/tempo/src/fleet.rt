@@ -2,7 +2,7 @@
 use account::account::{Account, Tables};
 use anyhow::Context;
 use drawn::draws::Draws;
-use drawn::entered::entered;
+use entry::qse::qse_row;
 use entry::resource::resource_row;
 use rows::codes::Side;
 use rows::qse::QseRow;
@@ -25,7 +25,7 @@ impl Fleet {
     pub(crate) fn drawn(heap: Global, count: u32) -> anyhow::Result<Fleet> {
         let mut draws = Draws::new(heap, SEED);
         let list = draws.figures(QSE, count)?;
-        let row = entered(list.as_slice())
+        let row = qse_row(list.as_slice())
             .ok()
             .context("the figures are refused")?;
         let mut units = Vec::new(heap);

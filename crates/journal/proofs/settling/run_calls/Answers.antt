@@ -8,7 +8,7 @@ use Rattle.journal.proofs.settling.run_calls.Goals as goal
 pub returns : goal.returns
 returns c =
     let last = c.replay.new in
-    let after = c.replay.ensures.guarantee _ _ _ (c.args.book.number, c.requires.opened) c.replay.ensures.run in
+    let after = c.replay.ensures.guarantee _ _ _ (c.args.book.ledger.number, c.requires.opened) c.replay.ensures.run in
     let empty = ap claims_in c.as_mut_slice-6.ensures.value ∙ c.requires.empty in
     held_moved (any_book c.replay.result) last.qses _ last.loads _ last.resources _ last.trades _ last.covers last.purse _ (after.claims_held empty)
     (take_at last.qses _ _ (omega (arith, c.replay.auto.qses, c.as_mut_slice.ensures.len)))
