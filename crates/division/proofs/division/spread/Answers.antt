@@ -8,7 +8,7 @@ use Rattle.division.proofs.division.spread.Given as given
 use Rattle.division.proofs.division.spread.Goals as goal
 
 -- the running sum, with the row's weight, is within the sum of all
-after_within : (g : given.Over) (c : goal.After-from g) → c.loop-row.before + c.from.result ≤ c.args.all
+after_within : (g : given.Over) (c : goal.After-from g) → c.loop-row.before + c.from.result ≤ c.args.split.all
 after_within g c =
     let weighs = g.T.Weighed.weighs in
     let old = c.args.rows.now in
@@ -20,15 +20,15 @@ pub overflow_add-after : goal.overflow_add-after
 overflow_add-after g c = record { fits = omega (arith, after_within g c) }
 
 pub share-requires : goal.share-requires
-share-requires g c = record { some = c.requires.some; order = omega arith; within = after_within g c; small = c.requires.small }
+share-requires g c = record { order = omega arith; within = after_within g c }
 
 pub loop-row-preserved : goal.loop-row-preserved
 loop-row-preserved g c =
     let weighs = g.T.Weighed.weighs in
     let holds = g.T.Weighed.holds in
     let paid = g.T.Weighed.paid in
-    let pot = c.args.pot in
-    let W = c.args.all in
+    let pot = c.args.split.pot in
+    let W = c.args.split.all in
     let old = c.args.rows.now in
     let new = c.loop-row.rows in
     let i = c.loop-row.row-index in
@@ -49,5 +49,5 @@ loop-row-preserved g c =
 
 pub returns : goal.returns
 returns g c =
-    spread_from_exact g.T.Weighed.weighs g.T.Weighed.holds g.T.Weighed.paid g.met.T.Weighed.adds c.args.pot c.args.all c.requires.some
+    spread_from_exact g.T.Weighed.weighs g.T.Weighed.holds g.T.Weighed.paid g.met.T.Weighed.adds c.args.split.pot c.args.split.all c.args.split.some
     c.args.rows.now c.loop-row.rows (omega arith) (λ k lt d. c.loop-row.invariant.0 k (omega arith) d) c.requires.sum
