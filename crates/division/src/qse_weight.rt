@@ -24,7 +24,7 @@ impl Weighed for QseRow {
         self.cents
     }
 
-    fn add(&mut self, n: u32) {
+    fn add_cents(&mut self, n: u32) {
         self.cents += u64::from(n);
     }
 }

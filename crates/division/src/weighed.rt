@@ -21,7 +21,7 @@ pub trait Weighed {
         ensures { result ≡ holds self.now };
 
     // Puts cents on a row that has room for them.
-    fn add(&mut self, n: u32)
+    fn add_cents(&mut self, n: u32)
         requires { holds self.old + n ≤ max_cents }
         ensures { paid self.old n self.new };
 
@@ -31,7 +31,7 @@ pub trait Weighed {
         ensures kept { max_cents < holds self.old + n → self.new ≡ self.old }
     {
         if has_room(self.cents(), n) {
-            self.add(n);
+            self.add_cents(n);
         }
     }
 

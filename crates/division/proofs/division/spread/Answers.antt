@@ -4,23 +4,16 @@ use Rattle.std.proofs.lemmas.List.Sums.{sum_by-take-le}
 use Rattle.rows.specs.Limits.{max_cents}
 use Rattle.division.specs.Division.{share, upto}
 use Rattle.division.proofs.Shares.{get_or_rest, rest_more, upto_more, paid_more, spread_from_exact}
-use Rattle.division.proofs.division.spread.Given as given
 use Rattle.division.proofs.division.spread.Goals as goal
 
 -- the running sum, with the row's weight, is within the sum of all
-after_within : (g : given.Over) (c : goal.After-from g) → c.loop-row.before + c.from.result ≤ c.args.split.all
-after_within g c =
+pub share-requires : goal.share-requires
+share-requires g c =
     let weighs = g.T.Weighed.weighs in
     let old = c.args.rows.now in
     let i = c.loop-row.row-index in
     let after = upto_more old c.loop-row.rows i c.loop-row.invariant.1 weighs c.row-item.result c.loop-row.before c.from.result (omega arith) c.loop-row.invariant.2 (omega arith) in
-    omega (arith, after, sum_by-take-le weighs old (i + 1))
-
-pub overflow_add-after : goal.overflow_add-after
-overflow_add-after g c = record { fits = omega (arith, after_within g c) }
-
-pub share-requires : goal.share-requires
-share-requires g c = record { order = omega arith; within = after_within g c }
+    record { order = omega arith; within = omega (arith, after, sum_by-take-le weighs old (i + 1)) }
 
 pub loop-row-preserved : goal.loop-row-preserved
 loop-row-preserved g c =
