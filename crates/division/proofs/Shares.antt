@@ -1,5 +1,5 @@
 -- The shares of a pot: each within one cent of its part, and together the whole pot.
-use Rattle.std.proofs.Common.{◌≡◌, ℕ, zero, suc, ◌+◌, ◌-◌, ◌*◌, ◌/◌, ◌^◌, ◌<◌, ◌≤◌, List, [], ◌∷◌, length, get_or, take, drop, set, sum_by, sym, ap, ◌∙◌, subst, add-zero, add-mul, mul-le-mul, mul-le-mul_left, mul-zero, le-div_iff_mul-le, mul-add, div-mul-le_self, mul-div_cancel, add-one, arith, below_more}
+use Rattle.std.proofs.Common.{◌≡◌, ℕ, zero, suc, ◌+◌, ◌-◌, ◌*◌, ◌/◌, ◌<◌, ◌≤◌, List, [], ◌∷◌, length, get_or, take, drop, set, sum_by, sym, ap, ◌∙◌, subst, add-zero, add-mul, mul-le-mul_left, mul-zero, le-div_iff_mul-le, mul-add, div-mul-le_self, mul-div_cancel, add-one, arith, below_more}
 use native.Mathlib.Nat.{lt-div-mul-add, zero-div}
 use Rattle.std.proofs.lemmas.List.{drop-drop, drop-set-lt, get_or_default, get_or-drop, get_or-set_same, get_or-set_other, take_all}
 use Rattle.std.proofs.lemmas.List.Sums.{sum_by_more}
@@ -11,16 +11,6 @@ an_element (x ∷ xs) i lt = x
 
 pub quotient_mono : (a b W : ℕ) → 0 < W → a ≤ b → a / W ≤ b / W
 quotient_mono a b W pos le = (le-div_iff_mul-le pos).1 (omega (arith, div-mul-le_self a W))
-
--- a part of the pot is no more than the pot
-pub part_within : (pot W v : ℕ) → 0 < W → v ≤ W → pot * v / W ≤ pot
-part_within pot W v pos le = omega (arith, quotient_mono (pot * v) (pot * W) W pos (mul-le-mul_left pot le), mul-div_cancel pot pos)
-
-pub product_fits : (p q v : ℕ) → p ≡ q → q < 2 ^ 32 → v < 2 ^ 96 → p * v < 2 ^ 128
-product_fits p q v e lt less =
-    let low : p ≤ 2 ^ 32 - 1 = omega arith in
-    let few : v ≤ 2 ^ 96 = omega arith in
-    omega (arith, mul-le-mul low few)
 
 share_up : (pot W v h : ℕ) → 0 < W → pot * v / W ≤ pot * (v + h) / W
 share_up pot W v h pos = quotient_mono (pot * v) (pot * (v + h)) W pos (mul-le-mul_left pot (omega arith))

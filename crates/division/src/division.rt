@@ -1,7 +1,8 @@
 // The division of a pot of cents over rows by their weight.
 ghost use Rattle.std.specs.Prelude.{◌≡◌, ℕ, ◌+◌, ◌^◌, ◌<◌, ◌≤◌, true, false, sum_by};
-ghost use Rattle.division.specs.Division.{share as share_of, HasRoom, TooFull, Spread, Divides};
+ghost use Rattle.division.specs.Division.{HasRoom, TooFull, Spread, Divides};
 
+use super::split::Split;
 use super::weighed::{Weighed, has_room};
 use rows::fault::Fault;
 
@@ -17,7 +18,7 @@ pub fn divide<T: Weighed>(rows: &mut [T], pot: u32) -> Result<u32, Fault>
     if all == 0 {
         return Ok(0);
     }
-    spread(rows, pot, all);
+    spread(rows, Split { pot, all });
     Ok(pot)
 }
 
@@ -26,52 +27,27 @@ pub fn sum_of_weights<T: Weighed>(rows: &[T]) -> u128
     ensures value { result ≡ sum_by T.weighs rows.now }
     ensures small { result < 2 ^ 96 }
 {
-    let mut sum = 0u128;
-    for row in rows {
-        sum += u128::from(row.weight());
-    }
-    sum
+    rows.iter().map(|row| u128::from(row.weight())).sum()
 }
 
 // Whether each row can take the whole pot.
 fn all_have_room<T: Weighed>(rows: &[T], pot: u32) -> bool
     ensures { elim result [ true ↦ HasRoom T.holds pot rows.now | false ↦ TooFull T.holds pot rows.now ] }
 {
-    for row in rows {
-        if !has_room(row.cents(), pot) {
-            return false;
-        }
-    }
-    true
+    rows.iter().all(|row| has_room(row.cents(), pot))
 }
 
 // Gives each row what the pot has for the weights up to it, less what it has for those before it, so
 // that what rounding leaves goes to a later row.
-fn spread<T: Weighed>(rows: &mut [T], pot: u32, all: u128)
-    requires sum { all ≡ sum_by T.weighs rows.old }
-    requires some { 0 < all }
-    requires small { all < 2 ^ 96 }
-    requires room { HasRoom T.holds pot rows.old }
-    ensures { Spread T.weighs T.holds T.paid pot rows.old rows.new all }
+fn spread<T: Weighed>(rows: &mut [T], split: Split)
+    requires sum { split.all ≡ sum_by T.weighs rows.old }
+    requires room { HasRoom T.holds split.pot rows.old }
+    ensures { Spread T.weighs T.holds T.paid split.pot rows.old rows.new split.all }
 {
     let mut before = 0u128;
     for row in rows.iter_mut() {
         let after = before + u128::from(row.weight());
-        row.pay(share(pot, all, before, after));
+        row.pay(split.share(before, after));
         before = after;
     }
-}
-
-// What a row gets that takes the running sum of weights from `before` to `after`, of `all`.
-fn share(pot: u32, all: u128, before: u128, after: u128) -> u32
-    requires some { 0 < all }
-    requires order { before ≤ after }
-    requires within { after ≤ all }
-    requires small { all < 2 ^ 96 }
-    ensures value { result ≡ share_of pot all before after }
-    ensures most { result ≤ pot }
-{
-    let upto_after = u128::from(pot) * after / all;
-    let upto_before = u128::from(pot) * before / all;
-    (upto_after - upto_before) as u32
 }

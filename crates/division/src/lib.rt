@@ -4,6 +4,7 @@
 pub mod division;
 pub mod load_weight;
 pub mod qse_weight;
+mod split;
 #[cfg(test)]
 mod tests;
 pub mod weighed;

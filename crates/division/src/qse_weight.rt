@@ -2,7 +2,7 @@
 ghost use Rattle.division.specs.Weighed.{PaidQse};
 ghost use Rattle.std.proofs.Common.{rules};
 
-use super::weighed::{Weighed, has_room};
+use super::weighed::Weighed;
 use rows::qse::QseRow;
 
 impl Weighed for QseRow {
@@ -24,9 +24,7 @@ impl Weighed for QseRow {
         self.cents
     }
 
-    fn pay(&mut self, n: u32) {
-        if has_room(self.cents, n) {
-            self.cents += u64::from(n);
-        }
+    fn add_cents(&mut self, n: u32) {
+        self.cents += u64::from(n);
     }
 }

@@ -20,10 +20,20 @@ pub trait Weighed {
     fn cents(&self) -> u64
         ensures { result ≡ holds self.now };
 
+    // Puts cents on a row that has room for them.
+    fn add_cents(&mut self, n: u32)
+        requires { holds self.old + n ≤ max_cents }
+        ensures { paid self.old n self.new };
+
     // A row that would pass its limit is left as it was.
     fn pay(&mut self, n: u32)
         ensures paid { holds self.old + n ≤ max_cents → paid self.old n self.new }
-        ensures kept { max_cents < holds self.old + n → self.new ≡ self.old };
+        ensures kept { max_cents < holds self.old + n → self.new ≡ self.old }
+    {
+        if has_room(self.cents(), n) {
+            self.add_cents(n);
+        }
+    }
 
     ghost adds: { (x : Self) (n : ℕ) (y : Self) → paid x n y → holds y ≡ holds x + n };
 

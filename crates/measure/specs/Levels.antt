@@ -38,3 +38,12 @@ pub record AtMost (l : Levels) (m : ℕ) : Type 0 where
   pub ecrs : l.with_ecrs ≤ m
   pub up : l.upward ≤ m
   pub regdown : l.reg_down ≤ m
+
+-- P of the two levels of each group and what is made of them
+pub record Made (P : ℕ → ℕ → ℕ → Type 0) (a b c : Levels) : Type 0 where
+  pub regup : P a.reg_up b.reg_up c.reg_up
+  pub rrs : P a.rrs b.rrs c.rrs
+  pub fast : P a.fast b.fast c.fast
+  pub ecrs : P a.with_ecrs b.with_ecrs c.with_ecrs
+  pub up : P a.upward b.upward c.upward
+  pub regdown : P a.reg_down b.reg_down c.reg_down

@@ -27,6 +27,6 @@ impl<A: Measure, B: Measure> Measure for Greater<A, B> {
     fn value(&self, a: &Account) -> u64 {
         let x = self.one.value(a);
         let y = self.other.value(a);
-        if x < y { y } else { x }
+        x.max(y)
     }
 }

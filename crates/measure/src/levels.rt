@@ -1,5 +1,5 @@
 // A number of kW for each of the six levels of the grouped edition.
-#[derive(Clone, Copy)]
+#[derive(Clone, Copy, Default)]
 pub struct Levels {
     pub reg_up: u64,
     pub rrs: u64,

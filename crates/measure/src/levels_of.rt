@@ -1,7 +1,7 @@
 // Levels of nine figures, and their arithmetic.
 ghost use Rattle.std.specs.Prelude.{◌≡◌, ℕ, ◌+◌, ◌-◌, ◌≤◌, min, max, List, slice_index};
 ghost use Rattle.account.specs.View.{over};
-ghost use Rattle.measure.specs.Levels.{IsLevels, AtMost};
+ghost use Rattle.measure.specs.Levels.{IsLevels, AtMost, Made};
 
 use super::levels::Levels;
 
@@ -27,34 +27,36 @@ impl Levels {
         }
     }
 
+    // Each level made of the two at its place.
+    fn zip_with<F: Fn(u64, u64) -> u64>(self, other: Levels, f: F) -> Levels
+        requires { F.IsAlwaysCallable f }
+        ensures { Made (λ x y z. F.post f x y z) self other result }
+    {
+        Levels {
+            reg_up: f(self.reg_up, other.reg_up),
+            rrs: f(self.rrs, other.rrs),
+            fast: f(self.fast, other.fast),
+            with_ecrs: f(self.with_ecrs, other.with_ecrs),
+            upward: f(self.upward, other.upward),
+            reg_down: f(self.reg_down, other.reg_down),
+        }
+    }
+
     // No level above the room.
     pub(crate) fn within(self, room: u64) -> Levels
         ensures value { (f : List ℕ → ℕ) → IsLevels self f → IsLevels result (λ ks. min room (f ks)) }
         ensures small { AtMost result room }
     {
-        Levels {
-            reg_up: room.min(self.reg_up),
-            rrs: room.min(self.rrs),
-            fast: room.min(self.fast),
-            with_ecrs: room.min(self.with_ecrs),
-            upward: room.min(self.upward),
-            reg_down: room.min(self.reg_down),
-        }
+        self.zip_with(self, |level, _| room.min(level))
     }
 
+    // The bounds keep each sum far from the end of its type, so that none is cut short.
     pub(crate) fn plus(self, more: Levels) -> Levels
         requires { (AtMost self 20000000000) × (AtMost more 20000000) }
         ensures value { (f g : List ℕ → ℕ) → IsLevels self f → IsLevels more g → IsLevels result (λ ks. f ks + g ks) }
         ensures small { (m : ℕ) → AtMost self m → AtMost result (m + 20000000) }
     {
-        Levels {
-            reg_up: self.reg_up + more.reg_up,
-            rrs: self.rrs + more.rrs,
-            fast: self.fast + more.fast,
-            with_ecrs: self.with_ecrs + more.with_ecrs,
-            upward: self.upward + more.upward,
-            reg_down: self.reg_down + more.reg_down,
-        }
+        self.zip_with(more, u64::saturating_add)
     }
 
     // What is asked beyond what is served.
@@ -62,14 +64,7 @@ impl Levels {
         ensures value { (f g : List ℕ → ℕ) → IsLevels self f → IsLevels served g → IsLevels result (λ ks. f ks - g ks) }
         ensures small { (m : ℕ) → AtMost self m → AtMost result m }
     {
-        Levels {
-            reg_up: self.reg_up.saturating_sub(served.reg_up),
-            rrs: self.rrs.saturating_sub(served.rrs),
-            fast: self.fast.saturating_sub(served.fast),
-            with_ecrs: self.with_ecrs.saturating_sub(served.with_ecrs),
-            upward: self.upward.saturating_sub(served.upward),
-            reg_down: self.reg_down.saturating_sub(served.reg_down),
-        }
+        self.zip_with(served, u64::saturating_sub)
     }
 
     // The worst of the levels that look upward.

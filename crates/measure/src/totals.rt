@@ -1,7 +1,7 @@
 // What the lines of an account give together.
 use super::levels::Levels;
 
-#[derive(Clone, Copy)]
+#[derive(Clone, Copy, Default)]
 pub struct Totals {
     // available power and load parts
     pub supply: u64,

@@ -51,19 +51,7 @@ impl Totals {
         ensures value { IsTotals (account_view a.now) result }
         ensures small { Under result 15360000000 }
     {
-        let none = Levels {
-            reg_up: 0,
-            rrs: 0,
-            fast: 0,
-            with_ecrs: 0,
-            upward: 0,
-            reg_down: 0,
-        };
-        let mut totals = Totals {
-            supply: 0,
-            offline: 0,
-            served: none,
-        };
+        let mut totals = Totals::default();
         for row in a.resources {
             totals = totals.with_row(a, row);
         }

@@ -1,6 +1,7 @@
 -- One resource more never raises a shortfall, by the law Help.
 use Rattle.std.proofs.Common.{◌≡◌, ℕ, List, [], ◌∷◌, ◌++◌, map, ℤ, ◌≤ℤ◌, sym, refl, ap, subst, arith}
 use borrow.Author.Differences.{ints}
+use Rattle.std.proofs.lemmas.List.{map-append}
 use Rattle.rows.specs.Rows.{PlainResource}
 use Rattle.rows.specs.declared.codes.Side.{Side}
 use Rattle.rows.specs.declared.codes.Side.TheVariants.{Snapshot, Adjusted}
@@ -17,10 +18,6 @@ lines_more : (xs ys : List Line) → More xs (xs ++ ys)
 lines_more [] ys = tt
 lines_more (x ∷ xs) ys = (same_line x, lines_more xs ys)
 
-pub map_append : {X Y : Type 0} (f : X → Y) (xs ys : List X) → map f (xs ++ ys) ≡ map f xs ++ map f ys
-map_append f [] ys = refl
-map_append f (x ∷ xs) ys = ap (λ l. f x ∷ l) (map_append f xs ys)
-
 le_same : (z : ℤ) → z ≤ℤ z
 le_same z = omega (arith, ints)
 
@@ -33,7 +30,7 @@ one_resource_helps o r side =
       net = le_same v.net;
       storage = le_same v.storage;
       position = λ k. le_same (v.position k);
-      lines = subst (More (map f o.resources)) (sym (map_append f o.resources (r ∷ []))) (lines_more (map f o.resources) (map f (r ∷ [])));
+      lines = subst (More (map f o.resources)) (sym (map-append f o.resources (r ∷ []))) (lines_more (map f o.resources) (map f (r ∷ [])));
     }
 
 pub never_raised : {m : View → ℕ} → Help m → (o : Own) (s : ℕ) → s ≡ shortfall_of m o → NeverRaised m o s

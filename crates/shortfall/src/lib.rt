@@ -1,7 +1,6 @@
 // Shortfalls of QSEs under any measure, their sum, and the pool.
 #![tactic(auto)]
 
-mod kept;
 mod measured;
 pub mod short;
 pub mod strike;

@@ -4,7 +4,7 @@ ghost use Rattle.rows.specs.Rows.{plain_qse};
 ghost use Rattle.account.specs.Account.{plain_tables};
 ghost use Rattle.shortfall.specs.Strike.{Struck};
 
-use super::measured::{measured_of, short_at};
+use super::measured::Measured;
 use account::account::Tables;
 use measure::measure::Measure;
 use rows::fault::Fault;
@@ -19,14 +19,14 @@ pub fn write_shortfalls<M: Measure>(
 ) -> Result<u64, Fault>
     ensures { Struck (M.meaning m.now) (plain_tables tables.entry) (map plain_qse rows.old) (map plain_qse rows.new) result }
 {
-    let measured = measured_of(m, rows, tables);
+    let measured = Measured::of(m, rows, tables);
     let t = measured.sum;
     if t > u128::from(MAX_SHORTFALL) {
         return Err(Fault::TotalTooHigh);
     }
-    for i in 0..rows.len() {
-        let s = short_at(m, &rows[i], tables, &measured.first, i);
-        rows[i].shortfall = s as u32;
+    for (i, row) in rows.iter_mut().enumerate() {
+        let s = measured.short_at(m, row, tables, i);
+        row.shortfall = s as u32;
     }
     Ok(t as u64)
 }

@@ -4,7 +4,7 @@ ghost use Rattle.rows.specs.Rows.{plain_qse};
 ghost use Rattle.account.specs.Account.{plain_tables};
 ghost use Rattle.shortfall.specs.Pool.{total as total_of, owns, CoversPool, PoolBounded};
 
-use super::short::short_of;
+use super::measured::Measured;
 use account::account::Tables;
 use measure::measure::Measure;
 use rows::qse::QseRow;
@@ -15,9 +15,5 @@ pub fn total_short<'a, M: Measure>(m: &M, rows: &'a [QseRow], tables: Tables<'a>
     ensures pool { CoversPool (M.meaning m.now) (plain_tables tables.entry) (map plain_qse rows.now) result }
     ensures bounded { PoolBounded (M.meaning m.now) (plain_tables tables.entry) (map plain_qse rows.now) }
 {
-    let mut sum = 0u128;
-    for row in rows {
-        sum += u128::from(short_of(m, row, tables));
-    }
-    sum
+    Measured::of(m, rows, tables).sum
 }

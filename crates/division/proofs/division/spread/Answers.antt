@@ -4,31 +4,24 @@ use Rattle.std.proofs.lemmas.List.Sums.{sum_by-take-le}
 use Rattle.rows.specs.Limits.{max_cents}
 use Rattle.division.specs.Division.{share, upto}
 use Rattle.division.proofs.Shares.{get_or_rest, rest_more, upto_more, paid_more, spread_from_exact}
-use Rattle.division.proofs.division.spread.Given as given
 use Rattle.division.proofs.division.spread.Goals as goal
 
 -- the running sum, with the row's weight, is within the sum of all
-after_within : (g : given.Over) (c : goal.After-from g) → c.loop-row.before + c.from.result ≤ c.args.all
-after_within g c =
+pub share-requires : goal.share-requires
+share-requires g c =
     let weighs = g.T.Weighed.weighs in
     let old = c.args.rows.now in
     let i = c.loop-row.row-index in
     let after = upto_more old c.loop-row.rows i c.loop-row.invariant.1 weighs c.row-item.result c.loop-row.before c.from.result (omega arith) c.loop-row.invariant.2 (omega arith) in
-    omega (arith, after, sum_by-take-le weighs old (i + 1))
-
-pub overflow_add-after : goal.overflow_add-after
-overflow_add-after g c = record { fits = omega (arith, after_within g c) }
-
-pub share-requires : goal.share-requires
-share-requires g c = record { some = c.requires.some; order = omega arith; within = after_within g c; small = c.requires.small }
+    record { order = omega arith; within = omega (arith, after, sum_by-take-le weighs old (i + 1)) }
 
 pub loop-row-preserved : goal.loop-row-preserved
 loop-row-preserved g c =
     let weighs = g.T.Weighed.weighs in
     let holds = g.T.Weighed.holds in
     let paid = g.T.Weighed.paid in
-    let pot = c.args.pot in
-    let W = c.args.all in
+    let pot = c.args.split.pot in
+    let W = c.args.split.all in
     let old = c.args.rows.now in
     let new = c.loop-row.rows in
     let i = c.loop-row.row-index in
@@ -49,5 +42,5 @@ loop-row-preserved g c =
 
 pub returns : goal.returns
 returns g c =
-    spread_from_exact g.T.Weighed.weighs g.T.Weighed.holds g.T.Weighed.paid g.met.T.Weighed.adds c.args.pot c.args.all c.requires.some
+    spread_from_exact g.T.Weighed.weighs g.T.Weighed.holds g.T.Weighed.paid g.met.T.Weighed.adds c.args.split.pot c.args.split.all c.args.split.some
     c.args.rows.now c.loop-row.rows (omega arith) (λ k lt d. c.loop-row.invariant.0 k (omega arith) d) c.requires.sum

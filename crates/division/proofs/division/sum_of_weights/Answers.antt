@@ -1,19 +1,12 @@
-use Rattle.std.proofs.Common.{sum_by, ap, ◌∙◌, arith}
-use Rattle.std.proofs.lemmas.List.{take_all}
-use Rattle.std.proofs.lemmas.List.Sums.{sum_by_more}
+use Rattle.std.proofs.Common.{rules, ◌-◌, ◌^◌, ◌<◌, sym, subst, arith}
+use borrow.Author.Tests.{tests}
+use Rattle.std.proofs.lemmas.Iterator.{YieldsList-from_slice}
+use Rattle.std.proofs.lemmas.Iterator.Adapters.{fits_from_length, at_most_from_yields_List}
 use Rattle.division.proofs.division.sum_of_weights.Goals as goal
 
-pub overflow_add-sum : goal.overflow_add-sum
-overflow_add-sum g c = record { fits = omega arith }
-
-pub loop-row-preserved : goal.loop-row-preserved
-loop-row-preserved g c =
-    let weighs = g.T.Weighed.weighs in
-    let row = c.row-item.result in
-    (omega (arith, sum_by_more weighs c.args.rows.now c.loop-row.row-index row c.loop-row-test.true, ap weighs c.row-item.is), omega arith)
-
-pub returns : goal.returns
-returns g c = record {
-  value = c.loop-row.invariant.0 ∙ ap (sum_by g.T.Weighed.weighs) (take_all _ _ c.loop-row-test.false);
-  small = omega arith;
-}
+-- a slice has fewer than 2^64 rows, and each weight is below 2^32
+pub returns-clause-small : goal.returns-clause-small
+returns-clause-small g c =
+    let run = c.sum.ensures.runs tt in
+    subst (λ n. n < 2 ^ 96) (sym run.3)
+    (fits_from_length _ _ (2 ^ 64 - 1) (2 ^ 96) (at_most_from_yields_List (YieldsList-from_slice c.args.rows.now cc) (omega (arith, c.iter.ensures.bound))) c.map.ensures.closure (omega arith) (λ x r q k. search (rules, tests)) run.0 run.0.seen run.1)

@@ -3,7 +3,7 @@ use Rattle.rows.specs.Rows.{plain_qse}
 use Rattle.rows.specs.declared.qse.QseRow.{QseRow}
 use Rattle.account.specs.Account.{plain_tables}
 use Rattle.shortfall.specs.Strike.{row_short}
-use Rattle.shortfall.proofs.measured.measured_of.Given as goal
+use Rattle.shortfall.proofs.measured.Measured.of.Given as goal
 
 abbrev pub invariant-loop-i : goal.invariant-loop-i
 invariant-loop-i g l =
