@@ -3,6 +3,7 @@ ghost use Rattle.division.specs.Weighed.{PaidLoad};
 ghost use Rattle.std.proofs.Common.{rules};
 
 use super::weighed::Weighed;
+use rows::limits::MAX_CENTS;
 use rows::load::LoadRow;
 
 impl Weighed for LoadRow {
@@ -25,6 +26,6 @@ impl Weighed for LoadRow {
     }
 
     fn add_cents(&mut self, n: u32) {
-        self.cents += u64::from(n);
+        self.cents = MAX_CENTS.min(self.cents + u64::from(n));
     }
 }

@@ -3,6 +3,7 @@ ghost use Rattle.division.specs.Weighed.{PaidQse};
 ghost use Rattle.std.proofs.Common.{rules};
 
 use super::weighed::Weighed;
+use rows::limits::MAX_CENTS;
 use rows::qse::QseRow;
 
 impl Weighed for QseRow {
@@ -25,6 +26,6 @@ impl Weighed for QseRow {
     }
 
     fn add_cents(&mut self, n: u32) {
-        self.cents += u64::from(n);
+        self.cents = MAX_CENTS.min(self.cents + u64::from(n));
     }
 }

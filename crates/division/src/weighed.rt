@@ -20,10 +20,9 @@ pub trait Weighed {
     fn cents(&self) -> u64
         ensures { result ≡ holds self.now };
 
-    // Puts cents on a row that has room for them.
+    // Puts cents on a row that has room for them; says nothing of another row.
     fn add_cents(&mut self, n: u32)
-        requires { holds self.old + n ≤ max_cents }
-        ensures { paid self.old n self.new };
+        ensures { holds self.old + n ≤ max_cents → paid self.old n self.new };
 
     // A row that would pass its limit is left as it was.
     fn pay(&mut self, n: u32)
