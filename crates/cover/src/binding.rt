@@ -18,8 +18,7 @@ pub struct Binding {
 }
 
 // The first closed set with the greatest lack, and that lack.
-fn worst_set(reached: &[u64], asked: &Summed) -> (usize, u64)
-    requires { length reached.now ≡ 144 }
+fn worst_set(reached: &[u64; 144], asked: &Summed) -> (usize, u64)
     ensures { Worst 144 reached.now asked.now.figures result.0 result.1 }
 {
     let mut worst = 0;

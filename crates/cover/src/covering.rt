@@ -27,8 +27,7 @@ fn own_rows(a: &Account) -> usize
 }
 
 // What may stay uncovered counts as one more line, which reaches every set but the empty one.
-fn add_budget(rest: &mut [u64], budget: u64)
-    requires sets { length rest.old ≡ 144 }
+fn add_budget(rest: &mut [u64; 144], budget: u64)
     requires few { Under 20000000000 rest.old }
     requires small { budget ≤ 46170000000 }
     ensures none { slice_index rest.new 0 ≡ slice_index rest.old 0 }
@@ -39,20 +38,18 @@ fn add_budget(rest: &mut [u64], budget: u64)
     }
 }
 
-fn take_reach(rest: &mut [u64], room: u32, capability: &Summed)
-    requires sets { length rest.old ≡ 144 }
-    requires enough { (k : ℕ) → k < 144 → min room (sum_to 9 k capability.now.figures) ≤ slice_index rest.old k }
+fn take_reach(rest: &mut [u64; 144], room: u32, capability: &Summed)
+    requires { (k : ℕ) → k < 144 → min room (sum_to 9 k capability.now.figures) ≤ slice_index rest.old k }
     ensures { (k : ℕ) → k < 144 → slice_index rest.new k ≡ slice_index rest.old k - min room (sum_to 9 k capability.now.figures) }
 {
     let room = u64::from(room);
-    for k in 0..144 {
-        rest[k] -= room.min(capability.sums[k]);
+    for (k, sum) in rest.iter_mut().enumerate() {
+        *sum -= room.min(capability.sums[k]);
     }
 }
 
 // Takes the line from the sums of the lines to come, and serves the positions from it.
-fn serve_line(rest: &mut [u64], line: &Line, left: &mut Summed) -> [u32; 14]
-    requires sets { length rest.old ≡ 144 }
+fn serve_line(rest: &mut [u64; 144], line: &Line, left: &mut Summed) -> [u32; 14]
     requires few { Under 70000000000 rest.old }
     requires enough { (k : ℕ) → k < 144 → min line.now.room (sum_to 9 k line.now.capability) ≤ slice_index rest.old k }
     ensures taken { (k : ℕ) → k < 144 → slice_index rest.new k ≡ slice_index rest.old k - min line.now.room (sum_to 9 k line.now.capability) }

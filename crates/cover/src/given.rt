@@ -25,15 +25,15 @@ pub(crate) fn capability_of(line: &Line) -> Summed
     Summed::of(line.capabilities())
 }
 
-fn add_reach(reached: &mut [u64], room: u32, capability: &Summed)
-    requires sets { length reached.old ≡ 144 }
+fn add_reach(reached: &mut [u64; 144], room: u32, capability: &Summed)
     requires few { Under 20000000000 reached.old }
     requires room { room ≤ 20000000 }
-    ensures { (k : ℕ) → k < 144 → slice_index reached.new k ≡ slice_index reached.old k + min room (sum_to 9 k capability.now.figures) }
+    ensures more { (k : ℕ) → k < 144 → slice_index reached.new k ≡ slice_index reached.old k + min room (sum_to 9 k capability.now.figures) }
+    ensures small { (m : ℕ) → Under m reached.old → Under (m + room) reached.new }
 {
     let room = u64::from(room);
-    for k in 0..144 {
-        reached[k] += room.min(capability.sums[k]);
+    for (k, sum) in reached.iter_mut().enumerate() {
+        *sum += room.min(capability.sums[k]);
     }
 }
 

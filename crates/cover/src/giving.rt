@@ -9,14 +9,13 @@ use super::sums::Summed;
 
 // As much as capability `j` may give to position `q`, taken from both; a pair with nothing to give is passed at once.
 fn give_most(
-    rest: &[u64],
+    rest: &[u64; 144],
     room: u64,
     capability: &mut Summed,
     left: &mut Summed,
     j: usize,
     q: usize,
 ) -> u64
-    requires sets { length rest.now ≡ 144 }
     requires few { Under 100000000000 rest.now }
     requires room { room ≤ 20000000 }
     requires capability { j < 9 }
@@ -38,8 +37,12 @@ fn give_most(
 }
 
 // Serves the positions as long as the lines to come, by their sums, can cover what is left.
-pub(crate) fn serve(rest: &[u64], room: u32, capability: Summed, left: &mut Summed) -> [u32; 14]
-    requires sets { length rest.now ≡ 144 }
+pub(crate) fn serve(
+    rest: &[u64; 144],
+    room: u32,
+    capability: Summed,
+    left: &mut Summed,
+) -> [u32; 14]
     requires few { Under 100000000000 rest.now }
     requires room { room ≤ 20000000 }
     ensures { Served rest.now room capability.figures left.old.figures left.new.figures result }

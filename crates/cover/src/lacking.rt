@@ -13,8 +13,7 @@ pub(crate) fn asked_of(standing: &Standing) -> Summed
     Summed::of(standing.counted())
 }
 
-pub(crate) fn lack_of(reached: &[u64], asked: &Summed) -> u64
-    requires { length reached.now ≡ 144 }
+pub(crate) fn lack_of(reached: &[u64; 144], asked: &Summed) -> u64
     ensures most { result ≡ lack_to 144 reached.now asked.now.figures }
     ensures small { result ≤ 46170000000 }
 {

@@ -6,8 +6,14 @@ use super::sets::member;
 use super::sums::Summed;
 
 // What is spare of the set number `k` for a position outside it, from capability `j`.
-fn spare_of(rest: &[u64], room: u64, capability: &Summed, left: &Summed, j: usize, k: usize) -> u64
-    requires sets { length rest.now ≡ 144 }
+fn spare_of(
+    rest: &[u64; 144],
+    room: u64,
+    capability: &Summed,
+    left: &Summed,
+    j: usize,
+    k: usize,
+) -> u64
     requires few { Under 100000000000 rest.now }
     requires room { room ≤ 20000000 }
     requires capability { j < 9 }
@@ -24,7 +30,7 @@ fn spare_of(rest: &[u64], room: u64, capability: &Summed, left: &Summed, j: usiz
 
 // The most, up to `b`, that capability `j` of the line may give to position `q`.
 pub(crate) fn limit(
-    rest: &[u64],
+    rest: &[u64; 144],
     room: u64,
     capability: &Summed,
     left: &Summed,
@@ -32,7 +38,6 @@ pub(crate) fn limit(
     q: usize,
     b: u64,
 ) -> u64
-    requires sets { length rest.now ≡ 144 }
     requires few { Under 100000000000 rest.now }
     requires room { room ≤ 20000000 }
     requires capability { j < 9 }

@@ -14,8 +14,7 @@ pub struct Summed {
 }
 
 // The figure added to each of the sums before `from` gives those from there to `to`.
-fn extend(sums: &mut [u64], from: usize, to: usize, figure: u64)
-    requires sets { length sums.old ≡ 144 }
+fn extend(sums: &mut [u64; 144], from: usize, to: usize, figure: u64)
     requires order { (from ≤ to) × ((to ≤ from + from) × (to ≤ 144)) }
     requires few { (k : ℕ) → k < from → slice_index sums.old k ≤ 46170000000 }
     requires low { figure ≤ 5130000000 }

@@ -1,13 +1,10 @@
-use Rattle.std.proofs.Common.{◌≡◌, ℕ, ◌<◌, get_or, sym, ap, ◌∙◌, arith}
+use Rattle.std.proofs.Common.{◌≡◌, ℕ, ◌<◌, get_or, ap, ◌∙◌, arith}
 use Rattle.account.specs.Account.{account_view}
 use Rattle.account.specs.View.{counted}
 use Rattle.least.specs.SubType.{demand}
 use Rattle.cover.proofs.CoverSteps.{filing_none, filing_same, filing_skip, filing_next, filing_room, filing_enough, filing_end}
 use Rattle.cover.proofs.covering.write_cover.Goals as goal
 use Rattle.cover.proofs.covering.write_cover.Goals.{in-Some, in_default}
-
-pub slice_bounds-serve_line-end : goal.slice_bounds-serve_line-end
-slice_bounds-serve_line-end c = sym c.loop-row.invariant.covers.long
 
 pub loop-row-init : goal.loop-row-init
 loop-row-init c =
@@ -18,7 +15,6 @@ loop-row-init c =
 
 pub serve_line-requires : goal.serve_line-requires
 serve_line-requires c = record {
-  sets = c.loop-row.invariant.covers.long;
   few = c.loop-row.invariant.covers.small;
   enough = filing_enough c.loop-row.row-index c.loop-row.n _ _ _ _ _ _ c.loop-row.invariant c.row-item.result c.loop-row-test.true c.row-item.is c.in-Some.ensures.0 _ c.in-Some.ensures.1;
 }
@@ -34,7 +30,7 @@ loop-row-preserved c =
     elim c.match-line.branch [
       | in-Some w ↦ filing_same _ _ _ _ _ _ _ _ _ _ _ _ w.n-is w.rest-is (ap (λ s. s.figures) w.left-is) w.out-is
           (filing_next i n _ _ _ _ _ _ c.loop-row.invariant d c.loop-row-test.true c.row-item.is w.in-Some.ensures.0 _ w.in-Some.ensures.1
-          _ _ _ (omega (arith, c.loop-row.invariant.covers.long)) w.serve_line.ensures.taken w.serve_line.ensures.served)
+          _ _ _ (omega arith) w.serve_line.ensures.taken w.serve_line.ensures.served)
       | in_default w ↦ filing_same _ _ _ _ _ _ _ _ _ _ _ _ w.n-is w.rest-is (ap (λ s. s.figures) w.left-is) w.out-is
           (filing_skip i n _ _ _ _ _ _ c.loop-row.invariant d c.loop-row-test.true c.row-item.is w.in_default.ensures)
     ]

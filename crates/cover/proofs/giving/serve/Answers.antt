@@ -8,7 +8,6 @@ loop-t-init c = serving_none _ _ _ _ _ _ (search rules) (search rules) refl zero
 
 pub give_most-d-requires : goal.give_most-d-requires
 give_most-d-requires c = record {
-  sets = c.requires.sets;
   few = c.requires.few;
   room = omega (arith, c.loop-t.invariant.less_room, c.requires.room);
   capability = subst (λ (x : ℕ). x < 9) (sym c.pair_at-j.ensures.capability) (pair_good _ c.loop-t-test.true).0;

@@ -3,7 +3,7 @@ use Rattle.measure.specs.Grouped.{supply}
 use Rattle.measure.proofs.LineTotals.{own_part_is, other_part}
 use Rattle.cover.specs.Sets.{sum_to}
 use Rattle.cover.specs.Given.{reach_of}
-use Rattle.cover.proofs.ReachSums.{reach_is, under_all}
+use Rattle.cover.proofs.ReachSums.{reach_is}
 use Rattle.cover.proofs.given.Given.with_row.Goals as goal
 
 pub returns-then-not-owns : goal.returns-then-not-owns
@@ -28,7 +28,7 @@ returns c =
     let is = c.of-line.ensures in
     let small = c.of-line.result.small in
     let added : (k : ℕ) → k < 144 → get_or c.add_reach.new.reached k 0 ≡ get_or c.args.self.reached k 0 + min c.of-line.result.room (sum_to 9 k c.of-line.result.capability) =
-    λ k h. c.add_reach.ensures k h ∙ ap (λ xs. get_or c.args.self.reached k 0 + min c.of-line.result.room (sum_to 9 k xs)) c.capability_of.ensures in
+    λ k h. c.add_reach.ensures.more k h ∙ ap (λ xs. get_or c.args.self.reached k 0 + min c.of-line.result.room (sum_to 9 k xs)) c.capability_of.ensures in
     record {
       value = record {
         reached = λ k h. added k h ∙ ap (λ n. get_or c.args.self.reached k 0 + n) (reach_is _ _ is k ∙ sym (own_part_is (reach_of k) a r own));
@@ -36,7 +36,7 @@ returns c =
         offline = omega (arith, c.from-3.ensures, own_part_is (λ l. l.offline) a r own, is.offline);
       };
       small = λ m under. record {
-        reached = under_all c.add_reach.new.reached 144 (m + 30000000) (omega arith) (λ k h. omega (arith, added k h, under.reached k, small.0));
+        reached = λ k. omega (arith, c.add_reach.ensures.small m under.reached k, small.0);
         supply = omega (arith, under.supply, c.from.ensures, c.from-2.ensures, small);
         offline = omega (arith, under.offline, c.from-3.ensures, small);
       };

@@ -13,7 +13,6 @@ extend-requires c =
     let from = c.start_of.ensures in
     let to = c.start_of-in-loop-j.ensures in
     record {
-      sets = c.loop-j.invariant.0;
       order = (omega (arith, o.0, from, to), (omega (arith, o.1, from, to), omega (arith, o.2, to)));
       few = λ k h. omega (arith, c.loop-j.invariant.1 k (omega (arith, from)), sum_under k 5130000000 c.args.figures c.requires);
       low = c.requires j;
