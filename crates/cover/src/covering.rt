@@ -7,7 +7,7 @@ ghost use Rattle.cover.specs.Covered.{CoveredBy, CoverOf};
 
 use super::given::{Given, capability_of};
 use super::giving::serve;
-use super::lacking::{asked_of, lack_of};
+use super::lacking::{asked_of, worst_set};
 use super::sums::Summed;
 use account::account::Account;
 use account::line::Line;
@@ -67,7 +67,7 @@ fn write_cover(a: &Account, out: &mut [[u32; 14]]) -> u64
     let standing = a.standing();
     let mut left = asked_of(&standing);
     let mut rest = Given::of(a).reached;
-    let least = lack_of(&rest, &left);
+    let least = worst_set(&rest, &left).lack;
     add_budget(&mut rest, least);
     let mut n = 0;
     for row in a.resources {

@@ -10,7 +10,7 @@ pub loop-row-init : goal.loop-row-init
 loop-row-init c =
     let a = c.args.a.now in
     let agree : (k : ℕ) → k < 9 → get_or c.asked_of-left.result.figures k 0 ≡ demand (account_view a) k = λ k h. c.asked_of-left.ensures k h ∙ ap counted (c.standing-standing.ensures.positions k h) in
-    filing_none _ a _ _ _ _ c.of.ensures.value.reached c.of.ensures.small.reached agree c.lack_of-least.ensures.most c.lack_of-least.ensures.small
+    filing_none _ a _ _ _ _ c.of.ensures.value.reached c.of.ensures.small.reached agree c.worst_set-least.ensures.worst.most c.worst_set-least.ensures.small
     (omega arith) c.add_budget.ensures.none c.add_budget.ensures.more c.requires
 
 pub serve_line-requires : goal.serve_line-requires
@@ -39,4 +39,4 @@ pub returns : goal.returns
 returns c =
     let a = c.args.a.now in
     let agree : (k : ℕ) → k < 9 → get_or c.asked_of-left.result.figures k 0 ≡ demand (account_view a) k = λ k h. c.asked_of-left.ensures k h ∙ ap counted (c.standing-standing.ensures.positions k h) in
-    filing_end c.loop-row.row-index c.loop-row.n _ a _ _ _ _ _ _ (omega arith) (omega arith) c.of.ensures.value.reached agree c.lack_of-least.ensures.most c.requires c.loop-row.invariant
+    filing_end c.loop-row.row-index c.loop-row.n _ a _ _ _ _ _ _ (omega arith) (omega arith) c.of.ensures.value.reached agree c.worst_set-least.ensures.worst.most c.requires c.loop-row.invariant
