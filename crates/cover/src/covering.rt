@@ -1,5 +1,7 @@
 // A cover of an account's positions by its lines that leaves the least uncovered.
-ghost use Rattle.std.specs.Prelude.{◌≡◌, ℕ, ◌+◌, ◌-◌, ◌<◌, ◌≤◌, min, length, slice_index};
+ghost use Rattle.std.specs.Prelude.{◌≡◌, ℕ, ◌+◌, ◌-◌, ◌<◌, ◌≤◌, min, count_by, length, slice_index};
+ghost use Rattle.rows.specs.Rows.{plain_resource};
+ghost use Rattle.account.specs.Own.{owns_resource};
 ghost use Rattle.account.specs.Account.{account_view};
 ghost use Rattle.cover.specs.Sets.{Under, sum_to};
 ghost use Rattle.cover.specs.Amounts.{Served};
@@ -15,15 +17,9 @@ use rows::fault::Fault;
 
 // How many of the resources are the account's.
 fn own_rows(a: &Account) -> usize
-    ensures { result ≡ length (account_view a.now).lines }
+    ensures { result ≡ count_by (λ r. owns_resource a.now.qse (plain_resource r)) a.now.resources.now }
 {
-    let mut n = 0;
-    for row in a.resources {
-        if row.qse == a.qse {
-            n += 1;
-        }
-    }
-    n
+    a.resources.iter().filter(|row| a.owns(row)).count()
 }
 
 // What may stay uncovered counts as one more line, which reaches every set but the empty one.
@@ -33,8 +29,8 @@ fn add_budget(rest: &mut [u64; 144], budget: u64)
     ensures none { slice_index rest.new 0 ≡ slice_index rest.old 0 }
     ensures more { (k : ℕ) → k < 144 → 0 < k → slice_index rest.new k ≡ slice_index rest.old k + budget }
 {
-    for k in 1..144 {
-        rest[k] += budget;
+    for sum in &mut rest[1..] {
+        *sum += budget;
     }
 }
 

@@ -30,8 +30,8 @@ fn give_most(
     }
     let d = limit(rest, room, capability, left, j, q, most);
     if d > 0 {
-        *capability = capability.less(j, d);
-        *left = left.less(q, d);
+        capability.take(j, d);
+        left.take(q, d);
     }
     d
 }

@@ -2,7 +2,7 @@
 ghost use Rattle.std.specs.Prelude.{◌≡◌, ℕ, ◌+◌, ◌-◌, ◌<◌, ◌≤◌, length, slice_index, slice_set};
 ghost use Rattle.cover.specs.Sets.{Under, sum_to};
 
-use super::sets::{member, start_of};
+use super::sets::{STARTS, member};
 
 #[derive(Clone, Copy)]
 pub struct Summed {
@@ -33,26 +33,23 @@ impl Summed {
         ensures { result.figures ≡ figures }
     {
         let mut sums = [0; 144];
-        for j in 0..9 {
-            extend(&mut sums, start_of(j), start_of(j + 1), figures[j]);
+        for (j, figure) in figures.iter().enumerate() {
+            extend(&mut sums, STARTS[j], STARTS[j + 1], *figure);
         }
         Summed { figures, sums }
     }
 
-    // The figure at place `j` less `d`.
-    pub(crate) fn less(&self, j: usize, d: u64) -> Summed
+    // Takes `d` from the figure at place `j`.
+    pub(crate) fn take(&mut self, j: usize, d: u64)
         requires place { j < 9 }
-        requires there { d ≤ slice_index self.now.figures j }
-        ensures { result.figures ≡ slice_set self.now.figures j (slice_index self.now.figures j - d) }
+        requires there { d ≤ slice_index self.old.figures j }
+        ensures { self.new.figures ≡ slice_set self.old.figures j (slice_index self.old.figures j - d) }
     {
-        let mut figures = self.figures;
-        figures[j] -= d;
-        let mut sums = self.sums;
-        for k in 0..144 {
+        self.figures[j] -= d;
+        for (k, sum) in self.sums.iter_mut().enumerate() {
             if member(k, j) {
-                sums[k] -= d;
+                *sum -= d;
             }
         }
-        Summed { figures, sums }
     }
 }
