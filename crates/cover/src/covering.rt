@@ -7,12 +7,10 @@ ghost use Rattle.cover.specs.Sets.{Under, sum_to};
 ghost use Rattle.cover.specs.Amounts.{Served};
 ghost use Rattle.cover.specs.Covered.{CoveredBy, CoverOf};
 
-use super::given::{Given, capability_of};
-use super::giving::serve;
+use super::given::Given;
 use super::lacking::{asked_of, worst_set};
-use super::sums::Summed;
+use super::pending::Pending;
 use account::account::Account;
-use account::line::Line;
 use rows::fault::Fault;
 
 // How many of the resources are the account's.
@@ -34,41 +32,20 @@ fn add_budget(rest: &mut [u64; 144], budget: u64)
     }
 }
 
-fn take_reach(rest: &mut [u64; 144], room: u32, capability: &Summed)
-    requires { (k : ℕ) → k < 144 → min room (sum_to 9 k capability.now.figures) ≤ slice_index rest.old k }
-    ensures { (k : ℕ) → k < 144 → slice_index rest.new k ≡ slice_index rest.old k - min room (sum_to 9 k capability.now.figures) }
-{
-    let room = u64::from(room);
-    for (k, sum) in rest.iter_mut().enumerate() {
-        *sum -= room.min(capability.sums[k]);
-    }
-}
-
-// Takes the line from the sums of the lines to come, and serves the positions from it.
-fn serve_line(rest: &mut [u64; 144], line: &Line, left: &mut Summed) -> [u32; 14]
-    requires few { Under 70000000000 rest.old }
-    requires enough { (k : ℕ) → k < 144 → min line.now.room (sum_to 9 k line.now.capability) ≤ slice_index rest.old k }
-    ensures taken { (k : ℕ) → k < 144 → slice_index rest.new k ≡ slice_index rest.old k - min line.now.room (sum_to 9 k line.now.capability) }
-    ensures served { Served rest.new line.now.room line.now.capability left.old.figures left.new.figures result }
-{
-    let capability = capability_of(line);
-    take_reach(rest, line.room, &capability);
-    serve(rest, line.room, capability, left)
-}
-
 fn write_cover(a: &Account, out: &mut [[u32; 14]]) -> u64
     requires { length (account_view a.now).lines ≤ length out.old }
     ensures { CoveredBy (account_view a.now) out.old out.new result }
 {
     let standing = a.standing();
-    let mut left = asked_of(&standing);
+    let left = asked_of(&standing);
     let mut rest = Given::of(a).reached;
     let least = worst_set(&rest, &left).lack;
     add_budget(&mut rest, least);
+    let mut pending = Pending { left, rest };
     let mut n = 0;
     for row in a.resources {
         if let Some(line) = a.line(row) {
-            out[n] = serve_line(&mut rest, &line, &mut left);
+            out[n] = pending.serve(&line);
             n += 1;
         }
     }

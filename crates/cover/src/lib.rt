@@ -8,6 +8,7 @@ pub mod giving;
 pub mod lacking;
 pub mod limits;
 pub mod pairs;
+mod pending;
 pub mod sets;
 pub mod sub_type;
 pub mod sums;

@@ -1,5 +1,6 @@
 // Nine figures with their sums over the closed sets, so that a sum is read and not made.
-ghost use Rattle.std.specs.Prelude.{◌≡◌, ℕ, ◌+◌, ◌-◌, ◌<◌, ◌≤◌, length, slice_index, slice_set};
+ghost use Rattle.std.specs.Prelude.{◌≡◌, ℕ, ◌+◌, ◌-◌, ◌<◌, ◌≤◌, cond, length, slice_index, slice_set};
+ghost use Rattle.least.specs.Chains.{mem};
 ghost use Rattle.cover.specs.Sets.{Under, sum_to};
 
 use super::sets::{STARTS, member};
@@ -27,6 +28,15 @@ fn extend(sums: &mut [u64; 144], from: usize, to: usize, figure: u64)
     }
 }
 
+// What the sum over the set number `k` loses with `d` at place `j`.
+fn lost(k: usize, j: usize, d: u64) -> u64
+    requires number { k < 144 }
+    requires place { j < 9 }
+    ensures { result ≡ cond (mem k j) d 0 }
+{
+    if member(k, j) { d } else { 0 }
+}
+
 impl Summed {
     pub(crate) fn of(figures: [u64; 9]) -> Summed
         requires { Under 5130000000 figures }
@@ -47,9 +57,7 @@ impl Summed {
     {
         self.figures[j] -= d;
         for (k, sum) in self.sums.iter_mut().enumerate() {
-            if member(k, j) {
-                *sum -= d;
-            }
+            *sum -= lost(k, j, d);
         }
     }
 }

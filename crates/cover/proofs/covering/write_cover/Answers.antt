@@ -13,11 +13,8 @@ loop-row-init c =
     filing_none _ a _ _ _ _ c.of.ensures.value.reached c.of.ensures.small.reached agree c.worst_set-least.ensures.worst.most c.worst_set-least.ensures.small
     (omega arith) c.add_budget.ensures.none c.add_budget.ensures.more c.requires
 
-pub serve_line-requires : goal.serve_line-requires
-serve_line-requires c = record {
-  few = c.loop-row.invariant.covers.small;
-  enough = filing_enough c.loop-row.row-index c.loop-row.n _ _ _ _ _ _ c.loop-row.invariant c.row-item.result c.loop-row-test.true c.row-item.is c.in-Some.ensures.0 _ c.in-Some.ensures.1;
-}
+pub serve-requires : goal.serve-requires
+serve-requires c = filing_enough c.loop-row.row-index c.loop-row.n _ _ _ _ _ _ c.loop-row.invariant c.row-item.result c.loop-row-test.true c.row-item.is c.in-Some.ensures.0 _ c.in-Some.ensures.1
 
 pub bounds-out-n : goal.bounds-out-n
 bounds-out-n c = omega (arith, c.loop-row.invariant.space, filing_room c.loop-row.row-index c.loop-row.n _ _ _ _ _ _ c.loop-row.invariant c.row-item.result c.loop-row-test.true c.row-item.is c.in-Some.ensures.0 _ c.in-Some.ensures.1)
@@ -28,10 +25,10 @@ loop-row-preserved c =
     let n = c.loop-row.n in
     let d = c.row-item.result in
     elim c.match-line.branch [
-      | in-Some w ↦ filing_same _ _ _ _ _ _ _ _ _ _ _ _ w.n-is w.rest-is (ap (λ s. s.figures) w.left-is) w.out-is
+      | in-Some w ↦ filing_same _ _ _ _ _ _ _ _ _ _ _ _ w.n-is (ap (λ s. s.rest) w.pending-is) (ap (λ s. s.left.figures) w.pending-is) w.out-is
           (filing_next i n _ _ _ _ _ _ c.loop-row.invariant d c.loop-row-test.true c.row-item.is w.in-Some.ensures.0 _ w.in-Some.ensures.1
-          _ _ _ (omega arith) w.serve_line.ensures.taken w.serve_line.ensures.served)
-      | in_default w ↦ filing_same _ _ _ _ _ _ _ _ _ _ _ _ w.n-is w.rest-is (ap (λ s. s.figures) w.left-is) w.out-is
+          _ _ _ w.serve.new.self.long w.serve.ensures.taken w.serve.ensures.served)
+      | in_default w ↦ filing_same _ _ _ _ _ _ _ _ _ _ _ _ w.n-is (ap (λ s. s.rest) w.pending-is) (ap (λ s. s.left.figures) w.pending-is) w.out-is
           (filing_skip i n _ _ _ _ _ _ c.loop-row.invariant d c.loop-row-test.true c.row-item.is w.in_default.ensures)
     ]
 

@@ -1,29 +1,7 @@
-use Rattle.std.proofs.Common.{◌≡◌, ℕ, ◌+◌, ◌-◌, ◌<◌, ◌≤◌, cond, length, get_or, sym, ap, ◌∙◌, subst, arith, length-set}
-use Rattle.least.specs.Chains.{mem}
+use Rattle.std.proofs.Common.{◌-◌, ◌<◌, ◌≤◌, length, get_or, ◌∙◌, arith, length-set}
 use Rattle.account.proofs.Arrays.{set_every}
-use Rattle.cover.proofs.SetSums.{Written, written_set, sum_less}
+use Rattle.cover.proofs.SetSums.{sum_less}
 use Rattle.cover.proofs.sums.Summed.take.Goals as goal
-use Rattle.cover.proofs.sums.Summed.take.Goals.{then-member, else-member}
-
-pub loop-k-preserved : goal.loop-k-preserved
-loop-k-preserved c =
-    let k = c.loop-k.k in
-    let xs = c.loop-k.sum-items in
-    let d = c.args.d in
-    let old = c.args.self.now.sums in
-    let lt : k < length xs = omega (arith, c.loop-k.invariant.0, c.loop-k-test.true) in
-    let f : ℕ → ℕ = λ i. get_or old i 0 - cond (mem i c.args.j) d 0 in
-    let w : Written f k old xs = c.loop-k.invariant.1 in
-    elim c.if-member.branch [
-      | then-member v ↦
-          let part : cond (mem k c.args.j) d 0 ≡ d = ap (λ b. cond b d 0) (sym c.member.ensures ∙ v.if-member.true) in
-          let here : get_or xs k 0 - d ≡ f k = omega (arith, w.ahead k (omega arith), part) in
-          (ap length v.sum-items-is ∙ length-set xs k (get_or xs k 0 - d) ∙ c.loop-k.invariant.0, subst (Written f (k + 1) old) (sym v.sum-items-is) (written_set f k old xs w (get_or xs k 0 - d) lt here))
-      | else-member v ↦
-          let part : cond (mem k c.args.j) d 0 ≡ 0 = ap (λ b. cond b d 0) (sym c.member.ensures ∙ v.if-member.false) in
-          let here : get_or xs k 0 ≡ f k = omega (arith, w.ahead k (omega arith), part) in
-          (ap length v.sum-items-is ∙ length-set xs k (get_or xs k 0) ∙ c.loop-k.invariant.0, subst (Written f (k + 1) old) (sym v.sum-items-is) (written_set f k old xs w (get_or xs k 0) lt here))
-    ]
 
 pub overflow_sub-sum : goal.overflow_sub-sum
 overflow_sub-sum c =
@@ -31,8 +9,7 @@ overflow_sub-sum c =
     let k = c.loop-k.k in
     let j = c.args.j in
     let d = c.args.d in
-    let part : cond (mem k j) d 0 ≡ d = ap (λ b. cond b d 0) (sym c.member.ensures ∙ c.if-member.true) in
-    omega (arith, part, sum_less k self.figures j d self.long.0 c.requires.place c.requires.there, self.each k c.loop-k-test.true, c.loop-k.invariant.1.ahead k (omega arith))
+    omega (arith, c.lost.ensures, sum_less k self.figures j d self.long.0 c.requires.place c.requires.there, self.each k c.loop-k-test.true, c.loop-k.invariant.1.ahead k (omega arith))
 
 pub invariant_of-self : goal.invariant_of-self
 invariant_of-self c =

@@ -1,12 +1,12 @@
 use Rattle.std.proofs.Common.{◌∙◌}
 use Rattle.cover.proofs.LimitSteps.{spare_is, gain_yes, gain_no}
-use Rattle.cover.proofs.limits.spare_of.Goals as goal
-use Rattle.cover.proofs.limits.spare_of.Goals.{then-member, else-member}
+use Rattle.cover.proofs.pending.Pending.spare.Goals as goal
+use Rattle.cover.proofs.pending.Pending.spare.Goals.{then-member, else-member}
 
 pub returns : goal.returns
 returns c =
-    let caps = c.args.capability.now in
-    let left = c.args.left.now in
+    let caps = c.args.offer.now.capability in
+    let left = c.args.self.now.left in
     let k = c.args.k in
     c.saturating_sub.ensures ∙ spare_is _ _ _ _ _ _ c.member.result _ _ c.member.ensures
     (elim c.if-member.branch [
