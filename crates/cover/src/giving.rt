@@ -3,22 +3,10 @@ ghost use Rattle.std.specs.Prelude.{◌≡◌, ℕ, ◌-◌, ◌<◌, ◌≤◌,
 ghost use Rattle.cover.specs.Sets.{sum_to, LimitTo};
 ghost use Rattle.cover.specs.Amounts.{Served};
 
-use super::given::capability_of;
+use super::offer::Offer;
 use super::pairs::{PAIRS, Pair};
-use super::pending::{Offer, Pending};
+use super::pending::Pending;
 use account::line::Line;
-
-impl Offer {
-    fn of(line: &Line) -> Offer
-        ensures room { result.room ≡ line.now.room }
-        ensures capability { result.capability.figures ≡ line.now.capability }
-    {
-        Offer {
-            room: u64::from(line.room),
-            capability: capability_of(line),
-        }
-    }
-}
 
 impl Pending {
     // As much as the offer may give at the pair, taken from both; a pair with nothing to give is passed at once.
@@ -66,7 +54,7 @@ impl Pending {
         ensures left { self.new.left ≡ self.old.left }
     {
         for (k, sum) in self.rest.iter_mut().enumerate() {
-            *sum -= offer.room.min(offer.capability.sums[k]);
+            *sum -= offer.reach(k);
         }
     }
 

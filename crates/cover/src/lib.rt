@@ -7,6 +7,7 @@ pub mod given;
 pub mod giving;
 pub mod lacking;
 pub mod limits;
+mod offer;
 pub mod pairs;
 mod pending;
 pub mod sets;

@@ -2,8 +2,9 @@
 ghost use Rattle.std.specs.Prelude.{◌≡◌, ℕ, ◌<◌};
 ghost use Rattle.cover.specs.Sets.{spare_at, LimitTo};
 
+use super::offer::Offer;
 use super::pairs::Pair;
-use super::pending::{Offer, Pending};
+use super::pending::Pending;
 use super::sets::member;
 
 impl Pending {
@@ -14,7 +15,7 @@ impl Pending {
         ensures { result ≡ spare_at self.now.rest offer.now.room offer.now.capability.figures self.now.left.figures j k }
     {
         let gain = if member(k, j) {
-            offer.room.min(offer.capability.sums[k])
+            offer.reach(k)
         } else {
             offer.room
         };

@@ -4,14 +4,6 @@ ghost use Rattle.cover.specs.Sets.{Under};
 
 use super::sums::Summed;
 
-// A line being served: what is free of its room and of its capabilities.
-#[derive(Clone, Copy)]
-pub(crate) struct Offer {
-    pub(crate) room: u64,
-    pub(crate) capability: Summed,
-    ghost small: { room ≤ 20000000 },
-}
-
 // The positions left, and what the lines to come reach of each closed set.
 #[derive(Clone, Copy)]
 pub(crate) struct Pending {

@@ -4,7 +4,7 @@ use Rattle.measure.proofs.LineTotals.{own_part_is, other_part}
 use Rattle.cover.specs.Sets.{sum_to}
 use Rattle.cover.specs.Given.{reach_of}
 use Rattle.cover.proofs.ReachSums.{reach_is}
-use Rattle.cover.proofs.given.Given.with_row.Goals as goal
+use Rattle.cover.proofs.given.Given.add_row.Goals as goal
 
 pub returns-then-not-owns : goal.returns-then-not-owns
 returns-then-not-owns c =
@@ -27,16 +27,18 @@ returns c =
     let own = sym c.owns.ensures ∙ c.if-not-owns.false in
     let is = c.of-line.ensures in
     let small = c.of-line.result.small in
-    let added : (k : ℕ) → k < 144 → get_or c.add_reach.new.reached k 0 ≡ get_or c.args.self.reached k 0 + min c.of-line.result.room (sum_to 9 k c.of-line.result.capability) =
-    λ k h. c.add_reach.ensures.more k h ∙ ap (λ xs. get_or c.args.self.reached k 0 + min c.of-line.result.room (sum_to 9 k xs)) c.capability_of.ensures in
+    let reached = c.add_reach.ensures in
+    let offer = c.of.ensures in
+    let added : (k : ℕ) → k < 144 → get_or c.add_reach.new.reached k 0 ≡ get_or c.args.self.now.reached k 0 + min c.of-line.result.room (sum_to 9 k c.of-line.result.capability) =
+    λ k h. rw (← offer.room, ← offer.capability) (reached.more k h) in
     record {
       value = record {
-        reached = λ k h. added k h ∙ ap (λ n. get_or c.args.self.reached k 0 + n) (reach_is _ _ is k ∙ sym (own_part_is (reach_of k) a r own));
+        reached = λ k h. added k h ∙ ap (λ n. get_or c.args.self.now.reached k 0 + n) (reach_is _ _ is k ∙ sym (own_part_is (reach_of k) a r own));
         supply = omega (arith, c.from.ensures, c.from-2.ensures, own_part_is supply a r own, is.available, is.loadpart);
         offline = omega (arith, c.from-3.ensures, own_part_is (λ l. l.offline) a r own, is.offline);
       };
       small = λ m under. record {
-        reached = λ k. omega (arith, c.add_reach.ensures.small m under.reached k, small.0);
+        reached = λ k. omega (arith, reached.small m under.reached k, offer.room, small.0);
         supply = omega (arith, under.supply, c.from.ensures, c.from-2.ensures, small);
         offline = omega (arith, under.offline, c.from-3.ensures, small);
       };
