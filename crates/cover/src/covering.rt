@@ -42,6 +42,7 @@ fn write_cover(a: &Account, out: &mut [[u32; 14]]) -> u64
     let least = worst_set(&rest, &left).lack;
     add_budget(&mut rest, least);
     let mut pending = Pending { left, rest };
+    // rows are counted, since only some of the resources have a line and the proof goes by resources
     let mut n = 0;
     for row in a.resources {
         if let Some(line) = a.line(row) {

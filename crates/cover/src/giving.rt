@@ -48,6 +48,7 @@ impl Pending {
         row
     }
 
+    // The sign and the bound that it keeps are all that this does not share with `add_reach`.
     fn take_reach(&mut self, offer: &Offer)
         requires { (k : ℕ) → k < 144 → min offer.now.room (sum_to 9 k offer.now.capability.figures) ≤ slice_index self.old.rest k }
         ensures rest { (k : ℕ) → k < 144 → slice_index self.new.rest k ≡ slice_index self.old.rest k - min offer.now.room (sum_to 9 k offer.now.capability.figures) }

@@ -6,7 +6,8 @@ ghost use Rattle.least.specs.Chains.{mem};
 // after it: each is the set as many numbers before it as there are of these, with `j`.
 pub(crate) const STARTS: [usize; 10] = [1, 2, 4, 8, 12, 16, 32, 48, 96, 144];
 
-// The members of each set: bit `j` stands for the sub-type at place `j`.
+// The members of each set: bit `j` stands for the sub-type at place `j`. Nine truths for each would say no more in
+// nine times the table.
 const MASKS: [u16; 144] = [
     0, 1, 2, 3, 4, 5, 6, 7, 12, 13, 14, 15, 28, 29, 30, 31, 32, 33, 34, 35, 36, 37, 38, 39, 44, 45,
     46, 47, 60, 61, 62, 63, 96, 97, 98, 99, 100, 101, 102, 103, 108, 109, 110, 111, 124, 125, 126,
@@ -18,7 +19,8 @@ const MASKS: [u16; 144] = [
     510, 511,
 ];
 
-// Whether the sub-type at place `j` belongs to the set number `k`.
+// Whether the sub-type at place `j` belongs to the set number `k`. Both stay plain indices: tables of figures and of
+// sums are gone through by them, in loops that know their bounds.
 pub(crate) fn member(k: usize, j: usize) -> bool
     requires number { k < 144 }
     requires place { j < 9 }

@@ -14,7 +14,8 @@ pub struct Summed {
     ghost each: { (k : ℕ) → k < 144 → slice_index sums k ≡ sum_to 9 k figures },
 }
 
-// The figure added to each of the sums before `from` gives those from there to `to`.
+// The figure added to each of the sums before `from` gives those from there to `to`. By index, since each reads
+// an earlier sum of the table that it is written to.
 fn extend(sums: &mut [u64; 144], from: usize, to: usize, figure: u64)
     requires order { (from ≤ to) × ((to ≤ from + from) × (to ≤ 144)) }
     requires few { (k : ℕ) → k < from → slice_index sums.old k ≤ 46170000000 }

@@ -5,7 +5,6 @@ use Rattle.cover.proofs.pending.Pending.spare.Goals.{then-member, else-member}
 
 pub returns : goal.returns
 returns c =
-    let caps = c.args.offer.now.capability in
     let left = c.args.self.now.left in
     let k = c.args.k in
     c.saturating_sub.ensures ∙ spare_is _ _ _ _ _ _ c.member.result _ _ c.member.ensures
@@ -13,4 +12,4 @@ returns c =
       | then-member w ↦ gain_yes _ _ _ _ _ w.if-member.true refl (w.gain-is ∙ w.reach-gain.ensures)
       | else-member w ↦ gain_no _ _ _ _ w.if-member.false w.gain-is
     ])
-    (left.each k c.requires.number)
+    (left.each k c.requires)
