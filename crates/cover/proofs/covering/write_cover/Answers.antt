@@ -2,7 +2,7 @@ use Rattle.std.proofs.Common.{◌≡◌, ℕ, ◌<◌, get_or, ap, ◌∙◌, ar
 use Rattle.account.specs.Account.{account_view}
 use Rattle.account.specs.View.{counted}
 use Rattle.least.specs.SubType.{demand}
-use Rattle.cover.proofs.CoverSteps.{filing_none, filing_same, filing_skip, filing_next, filing_room, filing_enough, filing_end}
+use Rattle.cover.proofs.CoverSteps.{filing_none, filing_same, filing_skip, filing_next, filing_enough, filing_end}
 use Rattle.cover.proofs.covering.write_cover.Goals as goal
 use Rattle.cover.proofs.covering.write_cover.Goals.{in-Some, in_default}
 
@@ -15,9 +15,6 @@ loop-row-init c =
 
 pub serve-requires : goal.serve-requires
 serve-requires c = filing_enough c.loop-row.row-index c.loop-row.n _ _ _ _ _ _ c.loop-row.invariant c.row-item.result c.loop-row-test.true c.row-item.is c.in-Some.ensures.0 _ c.in-Some.ensures.1
-
-pub bounds-out-n : goal.bounds-out-n
-bounds-out-n c = omega (arith, c.loop-row.invariant.space, filing_room c.loop-row.row-index c.loop-row.n _ _ _ _ _ _ c.loop-row.invariant c.row-item.result c.loop-row-test.true c.row-item.is c.in-Some.ensures.0 _ c.in-Some.ensures.1)
 
 pub loop-row-preserved : goal.loop-row-preserved
 loop-row-preserved c =

@@ -1,24 +1,10 @@
 use Rattle.std.proofs.Common.{◌≡◌, ℕ, ◌+◌, ◌<◌, min, get_or, sym, ap, ◌∙◌, arith}
 use Rattle.measure.specs.Grouped.{supply}
-use Rattle.measure.proofs.LineTotals.{own_part_is, other_part}
+use Rattle.measure.proofs.LineTotals.{own_part_is}
 use Rattle.cover.specs.Sets.{sum_to}
 use Rattle.cover.specs.Given.{reach_of}
 use Rattle.cover.proofs.ReachSums.{reach_is}
 use Rattle.cover.proofs.given.Given.add_row.Goals as goal
-
-pub returns-then-not-owns : goal.returns-then-not-owns
-returns-then-not-owns c =
-    let a = c.args.a.now in
-    let r = c.args.row.now in
-    let other = sym c.owns.ensures ∙ c.if-not-owns.true in
-    record {
-      value = record {
-        reached = λ k h. omega (arith, other_part (reach_of k) a r other);
-        supply = omega (arith, other_part supply a r other);
-        offline = omega (arith, other_part (λ l. l.offline) a r other);
-      };
-      small = λ m under. record { reached = λ k. omega (arith, under.reached k); supply = omega (arith, under.supply); offline = omega (arith, under.offline) };
-    }
 
 pub returns : goal.returns
 returns c =

@@ -15,9 +15,6 @@ more m n h w = record { reached = λ k. omega (arith, w.reached k); supply = ome
 pub loop-row-init : goal.loop-row-init
 loop-row-init c = ((λ k h. none_reached k), refl, refl, record { reached = λ k. omega (arith, none_reached k); supply = omega arith; offline = omega arith })
 
-pub add_row-requires : goal.add_row-requires
-add_row-requires c = more (30000000 * c.loop-row.row-index) 20000000000 (omega (arith, c.loop-row-test.true, c.args.a.now.few.1)) c.loop-row.invariant.3
-
 pub loop-row-preserved : goal.loop-row-preserved
 loop-row-preserved c =
     let a = c.args.a.now in
