@@ -1,5 +1,5 @@
 // Why an account is short of reserves: the services that bind.
-ghost use Rattle.std.specs.Prelude.{◌≡◌, ℕ, ◌<◌, ◌≤◌, false, length, slice_index_or};
+ghost use Rattle.std.specs.Prelude.{◌≡◌, ℕ, ◌<◌, false, slice_index_or};
 ghost use Rattle.account.specs.Account.{account_view};
 ghost use Rattle.least.specs.Chains.{mem};
 ghost use Rattle.cover.specs.Binding.{Binds};

@@ -1,10 +1,9 @@
 // A cover of an account's positions by its lines that leaves the least uncovered.
-ghost use Rattle.std.specs.Prelude.{◌≡◌, ℕ, ◌+◌, ◌-◌, ◌<◌, ◌≤◌, min, count_by, length, slice_index};
+ghost use Rattle.std.specs.Prelude.{◌≡◌, ℕ, ◌+◌, ◌<◌, ◌≤◌, count_by, length, slice_index};
 ghost use Rattle.rows.specs.Rows.{plain_resource};
 ghost use Rattle.account.specs.Own.{owns_resource};
 ghost use Rattle.account.specs.Account.{account_view};
-ghost use Rattle.cover.specs.Sets.{Under, sum_to};
-ghost use Rattle.cover.specs.Amounts.{Served};
+ghost use Rattle.cover.specs.Sets.{Under};
 ghost use Rattle.cover.specs.Covered.{CoveredBy, CoverOf};
 
 use super::given::Given;

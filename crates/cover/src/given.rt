@@ -1,5 +1,5 @@
 // What the lines of an account give together, in one pass.
-ghost use Rattle.std.specs.Prelude.{◌≡◌, ℕ, ◌+◌, ◌<◌, ◌≤◌, min, length, slice_index};
+ghost use Rattle.std.specs.Prelude.{◌≡◌, ℕ, ◌+◌, ◌<◌, min, slice_index};
 ghost use Rattle.account.specs.Account.{account_view};
 ghost use Rattle.cover.specs.Sets.{Under, sum_to};
 ghost use Rattle.cover.specs.Given.{Within, AddsRow, IsGiven};

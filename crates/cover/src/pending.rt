@@ -1,5 +1,5 @@
 // What is still to do while the lines are served, one after another.
-ghost use Rattle.std.specs.Prelude.{◌≡◌, ℕ, ◌≤◌, length};
+ghost use Rattle.std.specs.Prelude.{◌≡◌, ℕ, length};
 ghost use Rattle.cover.specs.Sets.{Under};
 
 use super::sums::Summed;
