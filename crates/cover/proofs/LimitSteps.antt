@@ -1,5 +1,6 @@
 -- The limit of a giving, one set after another.
 use Rattle.std.proofs.Common.{◌≡◌, ℕ, ◌+◌, ◌-◌, ◌<◌, ◌≤◌, min, Bool, true, false, cond, not, T, eqb, ◌⊎◌, List, get_or, sym, ap, ◌∙◌, subst, inl, inr, ⊎_elim, true≢false, arith, eqb→eq, eq-eqb}
+use Rattle.std.proofs.lemmas.Bool.{cases_lt}
 use Rattle.least.specs.Chains.{mem}
 use Rattle.least.proofs.Base.{bcase}
 use Rattle.cover.specs.Sets.{sum_to, spare_at, LimitTo}
@@ -9,12 +10,6 @@ pub spare_is : (rest : List ℕ) (room : ℕ) (caps left : List ℕ) (j k : ℕ)
 unfolding spare_at
 spare_is rest room caps left j k b g s e eg es =
     let u : g ≡ cond (mem k j) (min room (sum_to 9 k caps)) room = eg ∙ ap (λ (x : Bool). cond x (min room (sum_to 9 k caps)) room) e in omega (arith, u, es)
-
-pub limit_none : (rest : List ℕ) (room : ℕ) (caps left : List ℕ) (j q b : ℕ) → LimitTo 0 rest room caps left j q b b
-limit_none rest room caps left j q b = record { under = omega arith; each = λ k lt e. omega arith; why = inl (omega arith) }
-
-pub limit_zero : (K : ℕ) (rest : List ℕ) (room : ℕ) (caps left : List ℕ) (j q b : ℕ) → b ≡ 0 → LimitTo K rest room caps left j q b 0
-limit_zero K rest room caps left j q b e = record { under = omega arith; each = λ k lt h. omega arith; why = inl (omega arith) }
 
 pub at_last : (K k : ℕ) → k < K + 1 → (k < K) ⊎ (k ≡ K)
 at_last K k lt = bcase (eqb k K) (λ t. inr (eqb→eq k K t)) (λ t. inl (omega (arith, ne t)))
@@ -31,22 +26,22 @@ module _ (rest : List ℕ) (room : ℕ) (caps left : List ℕ) (j q b : ℕ) whe
     why = ⊎_elim (λ h. inl h) (λ w. inr (w.0, omega (arith, w.1), w.2, w.3)) c.why;
   })
 
-  pub limit_keep : (K r e d : ℕ) → LimitTo K rest room caps left j q b r → e ≡ spare_at rest room caps left j K → r ≤ e → d ≡ r → LimitTo (K + 1) rest room caps left j q b d
+  limit_keep : (K r e d : ℕ) → LimitTo K rest room caps left j q b r → e ≡ spare_at rest room caps left j K → r ≤ e → d ≡ r → LimitTo (K + 1) rest room caps left j q b d
   limit_keep K r e d c i h is = subst (λ (x : ℕ). LimitTo (K + 1) rest room caps left j q b x) (sym is) (record {
     under = c.under;
     each = λ k lt f. ⊎_elim (λ l. c.each k l f) (λ s. subst (λ (i : ℕ). r ≤ spare_at rest room caps left j i) (sym s) (omega (arith, i))) (at_last K k lt);
     why = ⊎_elim (λ h. inl h) (λ w. inr (w.0, omega (arith, w.1), w.2, w.3)) c.why;
   })
 
-  pub limit_take : (K r e d : ℕ) → LimitTo K rest room caps left j q b r → mem K q ≡ false → e ≡ spare_at rest room caps left j K → e < r → d ≡ e → LimitTo (K + 1) rest room caps left j q b d
+  limit_take : (K r e d : ℕ) → LimitTo K rest room caps left j q b r → mem K q ≡ false → e ≡ spare_at rest room caps left j K → e < r → d ≡ e → LimitTo (K + 1) rest room caps left j q b d
   limit_take K r e d c f i h is = subst (λ (x : ℕ). LimitTo (K + 1) rest room caps left j q b x) (sym is) (record {
     under = omega (arith, c.under);
     each = λ k lt g. ⊎_elim (λ l. omega (arith, c.each k l g)) (λ s. subst (λ (i : ℕ). e ≤ spare_at rest room caps left j i) (sym s) (omega (arith, i))) (at_last K k lt);
     why = inr (K, omega arith, f, omega (arith, i));
   })
 
-  pub limit_end : (K r : ℕ) → K ≤ 144 → 144 ≤ K → LimitTo K rest room caps left j q b r → LimitTo 144 rest room caps left j q b r
-  limit_end K r h1 h2 c = let z : K ≡ 144 = omega arith in subst (λ (x : ℕ). LimitTo x rest room caps left j q b r) z c
+  pub limit_less : (K r e d : ℕ) → LimitTo K rest room caps left j q b r → mem K q ≡ false → e ≡ spare_at rest room caps left j K → d ≡ min r e → LimitTo (K + 1) rest room caps left j q b d
+  limit_less K r e d c f i is = ⊎_elim (λ h. limit_take K r e d c f i h (omega arith)) (λ h. limit_keep K r e d c i h (omega arith)) (cases_lt e r)
 
 pub gain_yes : (b : Bool) (room x s g : ℕ) → b ≡ true → s ≡ x → g ≡ min room s → g ≡ cond b (min room x) room
 gain_yes b room x s g t e h = h ∙ ap (λ (y : ℕ). min room y) e ∙ ap (λ (y : Bool). cond y (min room x) room) (sym t)

@@ -1,10 +1,14 @@
 -- What the lines of an account reach of each closed set, and the greatest lack by a table of that.
-use Rattle.std.proofs.Common.{◌≡◌, ℕ, zero, suc, ◌+◌, ◌-◌, ◌<◌, ◌≤◌, min, List, [], ◌∷◌, length, get_or, replicate, sum_by, sym, refl, ap, ◌∙◌, subst, ⊎_elim, arith}
-use lib.ListN.{get_or-eq_default}
-use Rattle.std.proofs.lemmas.List.Sums.{sum_by-cons}
+use Rattle.std.proofs.Common.{◌≡◌, ℕ, zero, suc, ◌+◌, ◌-◌, ◌<◌, ◌≤◌, min, Bool, cond, List, [], ◌∷◌, map, filter, length, get_or, replicate, sum_by, count_by, sym, refl, ap, ◌∙◌, subst, ⊎_elim, arith}
+use lib.ListN.{get_or-eq_default, length-map}
+use Rattle.std.proofs.lemmas.List.Sums.{sum_by-cons, length-filter}
 use Rattle.std.proofs.lemmas.Bool.{cases_lt}
+use Rattle.rows.specs.Rows.{plain_resource}
 use Rattle.account.specs.View.{View, Line}
-use Rattle.account.specs.Account.{IsLine}
+use Rattle.account.specs.Lines.{line_of}
+use Rattle.account.specs.Own.{owns_resource}
+use Rattle.account.specs.Account.{account_view, IsLine}
+use Rattle.account.specs.declared.account.Account.{Account}
 use Rattle.account.specs.declared.line.Line.{Line as LineRow}
 use Rattle.least.specs.Sources.{sum_in, Source, reach, reach_all}
 use Rattle.least.specs.Cover.{greatest, greatest_lack, Pair}
@@ -30,9 +34,16 @@ unfolding reach_of
 reach_all_is k [] = refl
 reach_all_is k (l ∷ ls) = sum_by-cons (λ (m : Line). reach 9 (source m) (mem k)) l ls ∙ ap (λ (n : ℕ). reach 9 (source l) (mem k) + n) (reach_all_is k ls)
 
-pub sum_ones : (ls : List Line) → sum_by (λ _. 1) ls ≡ length ls
-sum_ones [] = refl
-sum_ones (l ∷ ls) = omega (arith, sum_by-cons (λ (_ : Line). 1) l ls, sum_ones ls)
+count_map : {A B : Type 0} (p : B → Bool) (f : A → B) (xs : List A) → count_by (λ x. p (f x)) xs ≡ count_by p (map f xs)
+count_map p f [] = refl
+count_map p f (x ∷ xs) = omega (arith, sum_by-cons (λ y. cond (p (f y)) 1 0) x xs, sum_by-cons (λ y. cond (p y) 1 0) (f x) (map f xs), count_map p f xs)
+
+-- an account has as many lines as it owns rows
+pub lines_count : (a : Account) → count_by (λ r. owns_resource a.qse (plain_resource r)) a.resources.now ≡ length (account_view a).lines
+lines_count a =
+    let plain = map plain_resource a.resources.now in
+    count_map (owns_resource a.qse) plain_resource a.resources.now ∙ sym (length-filter (owns_resource a.qse) plain)
+    ∙ sym (length-map (filter (owns_resource a.qse) plain) (line_of a.side))
 
 all_zero : (n k : ℕ) → get_or (replicate n 0) k 0 ≡ zero
 all_zero zero k = refl

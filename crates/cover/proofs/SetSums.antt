@@ -231,12 +231,3 @@ module _ (f : ℕ → ℕ) (n : ℕ) (before after : List ℕ) (w : Written f n 
         (cases_eq k n);
     ahead = λ k h. get_or-set_other after n k v 0 (λ e. omega arith) ∙ w.ahead k (omega arith);
   }
-
-  pub written_keep : (xs : List ℕ) → xs ≡ after → get_or before n 0 ≡ f n → Written f (n + 1) before xs
-  written_keep xs is e = subst (Written f (n + 1) before) (sym is) (record {
-    past = λ k h. ⊎_elim
-        (λ (i : k ≡ n). subst (λ (m : ℕ). get_or after m 0 ≡ f m) (sym i) (w.ahead n (omega arith) ∙ e))
-        (λ (ne : k ≢ n). w.past k (omega arith))
-        (cases_eq k n);
-    ahead = λ k h. w.ahead k (omega arith);
-  })

@@ -1,66 +1,34 @@
 // A cover of an account's positions by its lines that leaves the least uncovered.
-ghost use Rattle.std.specs.Prelude.{◌≡◌, ℕ, ◌+◌, ◌-◌, ◌<◌, ◌≤◌, min, length, slice_index};
+ghost use Rattle.std.specs.Prelude.{◌≡◌, ℕ, ◌+◌, ◌<◌, ◌≤◌, count_by, length, slice_index};
+ghost use Rattle.rows.specs.Rows.{plain_resource};
+ghost use Rattle.account.specs.Own.{owns_resource};
 ghost use Rattle.account.specs.Account.{account_view};
-ghost use Rattle.cover.specs.Sets.{Under, sum_to};
-ghost use Rattle.cover.specs.Amounts.{Served};
+ghost use Rattle.cover.specs.Sets.{Under};
 ghost use Rattle.cover.specs.Covered.{CoveredBy, CoverOf};
 
-use super::given::{Given, capability_of};
-use super::giving::serve;
-use super::lacking::{asked_of, lack_of};
-use super::sums::Summed;
+use super::given::Given;
+use super::lacking::{asked_of, worst_set};
+use super::pending::Pending;
 use account::account::Account;
-use account::line::Line;
 use rows::fault::Fault;
 
 // How many of the resources are the account's.
 fn own_rows(a: &Account) -> usize
-    ensures { result ≡ length (account_view a.now).lines }
+    ensures { result ≡ count_by (λ r. owns_resource a.now.qse (plain_resource r)) a.now.resources.now }
 {
-    let mut n = 0;
-    for row in a.resources {
-        if row.qse == a.qse {
-            n += 1;
-        }
-    }
-    n
+    a.resources.iter().filter(|row| a.owns(row)).count()
 }
 
 // What may stay uncovered counts as one more line, which reaches every set but the empty one.
-fn add_budget(rest: &mut [u64], budget: u64)
-    requires sets { length rest.old ≡ 144 }
+fn add_budget(rest: &mut [u64; 144], budget: u64)
     requires few { Under 20000000000 rest.old }
     requires small { budget ≤ 46170000000 }
     ensures none { slice_index rest.new 0 ≡ slice_index rest.old 0 }
     ensures more { (k : ℕ) → k < 144 → 0 < k → slice_index rest.new k ≡ slice_index rest.old k + budget }
 {
-    for k in 1..144 {
-        rest[k] += budget;
+    for sum in &mut rest[1..] {
+        *sum += budget;
     }
-}
-
-fn take_reach(rest: &mut [u64], room: u32, capability: &Summed)
-    requires sets { length rest.old ≡ 144 }
-    requires enough { (k : ℕ) → k < 144 → min room (sum_to 9 k capability.now.figures) ≤ slice_index rest.old k }
-    ensures { (k : ℕ) → k < 144 → slice_index rest.new k ≡ slice_index rest.old k - min room (sum_to 9 k capability.now.figures) }
-{
-    let room = u64::from(room);
-    for k in 0..144 {
-        rest[k] -= room.min(capability.sums[k]);
-    }
-}
-
-// Takes the line from the sums of the lines to come, and serves the positions from it.
-fn serve_line(rest: &mut [u64], line: &Line, left: &mut Summed) -> [u32; 14]
-    requires sets { length rest.old ≡ 144 }
-    requires few { Under 70000000000 rest.old }
-    requires enough { (k : ℕ) → k < 144 → min line.now.room (sum_to 9 k line.now.capability) ≤ slice_index rest.old k }
-    ensures taken { (k : ℕ) → k < 144 → slice_index rest.new k ≡ slice_index rest.old k - min line.now.room (sum_to 9 k line.now.capability) }
-    ensures served { Served rest.new line.now.room line.now.capability left.old.figures left.new.figures result }
-{
-    let capability = capability_of(line);
-    take_reach(rest, line.room, &capability);
-    serve(rest, line.room, capability, left)
 }
 
 fn write_cover(a: &Account, out: &mut [[u32; 14]]) -> u64
@@ -68,14 +36,16 @@ fn write_cover(a: &Account, out: &mut [[u32; 14]]) -> u64
     ensures { CoveredBy (account_view a.now) out.old out.new result }
 {
     let standing = a.standing();
-    let mut left = asked_of(&standing);
+    let left = asked_of(&standing);
     let mut rest = Given::of(a).reached;
-    let least = lack_of(&rest, &left);
+    let least = worst_set(&rest, &left).lack;
     add_budget(&mut rest, least);
+    let mut pending = Pending { left, rest };
+    // rows are counted, since only some of the resources have a line and the proof goes by resources
     let mut n = 0;
     for row in a.resources {
         if let Some(line) = a.line(row) {
-            out[n] = serve_line(&mut rest, &line, &mut left);
+            out[n] = pending.serve(&line);
             n += 1;
         }
     }

@@ -1,10 +1,10 @@
 // What the lines of an account give together, in one pass.
-ghost use Rattle.std.specs.Prelude.{◌≡◌, ℕ, ◌+◌, ◌<◌, ◌≤◌, min, length, slice_index};
+ghost use Rattle.std.specs.Prelude.{◌≡◌, ℕ, ◌+◌, ◌<◌, min, slice_index};
 ghost use Rattle.account.specs.Account.{account_view};
 ghost use Rattle.cover.specs.Sets.{Under, sum_to};
 ghost use Rattle.cover.specs.Given.{Within, AddsRow, IsGiven};
 
-use super::sums::Summed;
+use super::offer::Offer;
 use account::account::Account;
 use account::line::Line;
 use rows::resource::ResourceRow;
@@ -19,40 +19,30 @@ pub struct Given {
     pub offline: u64,
 }
 
-pub(crate) fn capability_of(line: &Line) -> Summed
-    ensures { result.figures ≡ line.now.capability }
+fn add_reach(reached: &mut [u64; 144], offer: &Offer)
+    requires { Under 20000000000 reached.old }
+    ensures more { (k : ℕ) → k < 144 → slice_index reached.new k ≡ slice_index reached.old k + min offer.now.room (sum_to 9 k offer.now.capability.figures) }
+    ensures small { (m : ℕ) → Under m reached.old → Under (m + offer.now.room) reached.new }
 {
-    Summed::of(line.capabilities())
-}
-
-fn add_reach(reached: &mut [u64], room: u32, capability: &Summed)
-    requires sets { length reached.old ≡ 144 }
-    requires few { Under 20000000000 reached.old }
-    requires room { room ≤ 20000000 }
-    ensures { (k : ℕ) → k < 144 → slice_index reached.new k ≡ slice_index reached.old k + min room (sum_to 9 k capability.now.figures) }
-{
-    let room = u64::from(room);
-    for k in 0..144 {
-        reached[k] += room.min(capability.sums[k]);
+    for (k, sum) in reached.iter_mut().enumerate() {
+        *sum += offer.reach(k);
     }
 }
 
 impl Given {
     // The row's line more, where the row is the account's; most rows are another's.
-    fn with_row(self, a: &Account, row: &ResourceRow) -> Given
-        requires { Within self 20000000000 }
-        ensures value { AddsRow a.now self row.now result }
-        ensures small { (m : ℕ) → Within self m → Within result (m + 30000000) }
+    fn add_row(&mut self, a: &Account, row: &ResourceRow)
+        requires { Within self.old 20000000000 }
+        ensures value { AddsRow a.now self.old row.now self.new }
+        ensures small { (m : ℕ) → Within self.old m → Within self.new (m + 30000000) }
     {
         if !a.owns(row) {
-            return self;
+            return;
         }
         let line = Line::of(row, a.side);
-        let mut given = self;
-        add_reach(&mut given.reached, line.room, &capability_of(&line));
-        given.supply += u64::from(line.available) + u64::from(line.load_part);
-        given.offline += u64::from(line.offline);
-        given
+        add_reach(&mut self.reached, &Offer::of(&line));
+        self.supply += u64::from(line.available) + u64::from(line.load_part);
+        self.offline += u64::from(line.offline);
     }
 
     // One pass over the resources, in which each line is derived once.
@@ -66,7 +56,7 @@ impl Given {
             offline: 0,
         };
         for row in a.resources {
-            given = given.with_row(a, row);
+            given.add_row(a, row);
         }
         given
     }

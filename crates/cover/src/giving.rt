@@ -1,57 +1,72 @@
 // One line served: what it gives to the positions, pair after pair.
-ghost use Rattle.std.specs.Prelude.{◌≡◌, ℕ, ◌-◌, ◌<◌, ◌≤◌, min, length, slice_index, slice_set};
-ghost use Rattle.cover.specs.Sets.{Under, LimitTo};
+ghost use Rattle.std.specs.Prelude.{◌≡◌, ℕ, ◌-◌, ◌<◌, ◌≤◌, min, slice_index, slice_set};
+ghost use Rattle.cover.specs.Sets.{sum_to, LimitTo};
 ghost use Rattle.cover.specs.Amounts.{Served};
 
-use super::limits::limit;
-use super::pairs::pair_at;
-use super::sums::Summed;
+use super::offer::Offer;
+use super::pairs::{PAIRS, Pair};
+use super::pending::Pending;
+use account::line::Line;
 
-// As much as capability `j` may give to position `q`, taken from both; a pair with nothing to give is passed at once.
-fn give_most(
-    rest: &[u64],
-    room: u64,
-    capability: &mut Summed,
-    left: &mut Summed,
-    j: usize,
-    q: usize,
-) -> u64
-    requires sets { length rest.now ≡ 144 }
-    requires few { Under 100000000000 rest.now }
-    requires room { room ≤ 20000000 }
-    requires capability { j < 9 }
-    requires position { q < 9 }
-    ensures limit { LimitTo 144 rest.now room capability.old.figures left.old.figures j q (min room (min (slice_index capability.old.figures j) (slice_index left.old.figures q))) result }
-    ensures capability { capability.new.figures ≡ slice_set capability.old.figures j (slice_index capability.old.figures j - result) }
-    ensures left { left.new.figures ≡ slice_set left.old.figures q (slice_index left.old.figures q - result) }
-{
-    let most = room.min(capability.figures[j].min(left.figures[q]));
-    if most == 0 {
-        return 0;
+impl Pending {
+    // As much as the offer may give at the pair, taken from both; a pair with nothing to give is passed at once.
+    fn give(&mut self, offer: &mut Offer, pair: Pair) -> u64
+        ensures limit { let caps = offer.old.capability.figures in let left = self.old.left.figures in LimitTo 144 self.old.rest offer.old.room caps left pair.capability pair.position (min offer.old.room (min (slice_index caps pair.capability) (slice_index left pair.position))) result }
+        ensures rest { self.new.rest ≡ self.old.rest }
+        ensures room { offer.new.room ≡ offer.old.room - result }
+        ensures capability { offer.new.capability.figures ≡ slice_set offer.old.capability.figures pair.capability (slice_index offer.old.capability.figures pair.capability - result) }
+        ensures left { self.new.left.figures ≡ slice_set self.old.left.figures pair.position (slice_index self.old.left.figures pair.position - result) }
+    {
+        let most = offer.room.min(offer.capability.figures[pair.capability].min(
+            self.left.figures[pair.position],
+        ));
+        if most == 0 {
+            return 0;
+        }
+        let d = self.limit(offer, pair, most);
+        if d > 0 {
+            offer.room -= d;
+            offer.capability.take(pair.capability, d);
+            self.left.take(pair.position, d);
+        }
+        d
     }
-    let d = limit(rest, room, capability, left, j, q, most);
-    if d > 0 {
-        *capability = capability.less(j, d);
-        *left = left.less(q, d);
-    }
-    d
-}
 
-// Serves the positions as long as the lines to come, by their sums, can cover what is left.
-pub(crate) fn serve(rest: &[u64], room: u32, capability: Summed, left: &mut Summed) -> [u32; 14]
-    requires sets { length rest.now ≡ 144 }
-    requires few { Under 100000000000 rest.now }
-    requires room { room ≤ 20000000 }
-    ensures { Served rest.now room capability.figures left.old.figures left.new.figures result }
-{
-    let mut capability = capability;
-    let mut row = [0; 14];
-    let mut free = u64::from(room);
-    for t in 0..14 {
-        let (j, q) = pair_at(t);
-        let d = give_most(rest, free, &mut capability, left, j, q);
-        free -= d;
-        row[t] = d as u32;
+    // Gives as long as the lines to come, by their sums, can cover what is left.
+    fn give_all(&mut self, offer: &mut Offer) -> [u32; 14]
+        ensures rest { self.new.rest ≡ self.old.rest }
+        ensures served { Served self.old.rest offer.old.room offer.old.capability.figures self.old.left.figures self.new.left.figures result }
+    {
+        let mut row = [0; 14];
+        for (t, &(capability, position)) in PAIRS.iter().enumerate() {
+            let pair = Pair {
+                capability,
+                position,
+            };
+            row[t] = self.give(offer, pair) as u32;
+        }
+        row
     }
-    row
+
+    // The sign and the bound that it keeps are all that this does not share with `add_reach`.
+    fn take_reach(&mut self, offer: &Offer)
+        requires { (k : ℕ) → k < 144 → min offer.now.room (sum_to 9 k offer.now.capability.figures) ≤ slice_index self.old.rest k }
+        ensures rest { (k : ℕ) → k < 144 → slice_index self.new.rest k ≡ slice_index self.old.rest k - min offer.now.room (sum_to 9 k offer.now.capability.figures) }
+        ensures left { self.new.left ≡ self.old.left }
+    {
+        for (k, sum) in self.rest.iter_mut().enumerate() {
+            *sum -= offer.reach(k);
+        }
+    }
+
+    // Takes the line from the sums of the lines to come, and serves the positions from it.
+    pub(crate) fn serve(&mut self, line: &Line) -> [u32; 14]
+        requires { (k : ℕ) → k < 144 → min line.now.room (sum_to 9 k line.now.capability) ≤ slice_index self.old.rest k }
+        ensures taken { (k : ℕ) → k < 144 → slice_index self.new.rest k ≡ slice_index self.old.rest k - min line.now.room (sum_to 9 k line.now.capability) }
+        ensures served { Served self.new.rest line.now.room line.now.capability self.old.left.figures self.new.left.figures result }
+    {
+        let mut offer = Offer::of(line);
+        self.take_reach(&offer);
+        self.give_all(&mut offer)
+    }
 }

@@ -1,10 +1,23 @@
-// Positions, and the greatest lack of a closed set of them.
-ghost use Rattle.std.specs.Prelude.{◌≡◌, ℕ, ◌<◌, ◌≤◌, length, pos, slice_index, slice_index_or};
+// Positions, and the closed set of them that lacks most.
+ghost use Rattle.std.specs.Prelude.{◌≡◌, ℕ, ◌-◌, ◌<◌, ◌≤◌, pos, slice_index, slice_index_or};
+ghost use Rattle.account.specs.Account.{account_view};
 ghost use Rattle.account.specs.View.{counted as countedOf};
-ghost use Rattle.cover.specs.Sets.{lack_to};
+ghost use Rattle.least.specs.Sources.{sum_in, reach_all};
+ghost use Rattle.least.specs.Chains.{mem};
+ghost use Rattle.least.specs.SubType.{sources, demand, reserve, LeastUncovered};
+ghost use Rattle.cover.specs.Binding.{Worst};
 
+use super::given::Given;
 use super::sums::Summed;
+use account::account::Account;
 use account::standing::Standing;
+
+// A closed set by its number, and what it lacks in kW.
+#[derive(Clone, Copy)]
+pub(crate) struct WorstSet {
+    pub(crate) number: usize,
+    pub(crate) lack: u64,
+}
 
 // The positions as they count.
 pub(crate) fn asked_of(standing: &Standing) -> Summed
@@ -13,14 +26,28 @@ pub(crate) fn asked_of(standing: &Standing) -> Summed
     Summed::of(standing.counted())
 }
 
-pub(crate) fn lack_of(reached: &[u64], asked: &Summed) -> u64
-    requires { length reached.now ≡ 144 }
-    ensures most { result ≡ lack_to 144 reached.now asked.now.figures }
-    ensures small { result ≤ 46170000000 }
+// The first closed set with the greatest lack.
+pub(crate) fn worst_set(reached: &[u64; 144], asked: &Summed) -> WorstSet
+    ensures worst { Worst 144 reached.now asked.now.figures result.number result.lack }
+    ensures small { result.lack ≤ 46170000000 }
 {
-    let mut most = 0u64;
-    for k in 0..144 {
-        most = most.max(asked.sums[k].saturating_sub(reached[k]));
+    let mut worst = WorstSet { number: 0, lack: 0 };
+    for (k, reach) in reached.iter().enumerate() {
+        let lack = asked.sums[k].saturating_sub(*reach);
+        if lack > worst.lack {
+            worst = WorstSet { number: k, lack };
+        }
     }
-    most
+    worst
+}
+
+// What its positions ask beyond what the lines reach of it is just what no cover can help.
+pub(crate) fn worst_of(a: &Account) -> WorstSet
+    ensures number { result.number < 144 }
+    ensures lack { result.lack ≡ sum_in 9 (mem result.number) (demand (account_view a.now)) - reach_all 9 (sources (account_view a.now).lines) (mem result.number) }
+    ensures value { result.lack ≡ reserve (account_view a.now) }
+    ensures least { LeastUncovered (account_view a.now) result.lack }
+    ensures small { result.lack ≤ 46170000000 }
+{
+    worst_set(&Given::of(a).reached, &asked_of(&a.standing()))
 }

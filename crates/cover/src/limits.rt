@@ -1,52 +1,36 @@
 // How much a line may give to a position before the lines to come cannot cover the others.
-ghost use Rattle.std.specs.Prelude.{◌≡◌, ℕ, ◌<◌, ◌≤◌, length};
-ghost use Rattle.cover.specs.Sets.{Under, spare_at, LimitTo};
+ghost use Rattle.std.specs.Prelude.{◌≡◌, ℕ, ◌<◌};
+ghost use Rattle.cover.specs.Sets.{spare_at, LimitTo};
 
+use super::offer::Offer;
+use super::pairs::Pair;
+use super::pending::Pending;
 use super::sets::member;
-use super::sums::Summed;
 
-// What is spare of the set number `k` for a position outside it, from capability `j`.
-fn spare_of(rest: &[u64], room: u64, capability: &Summed, left: &Summed, j: usize, k: usize) -> u64
-    requires sets { length rest.now ≡ 144 }
-    requires few { Under 100000000000 rest.now }
-    requires room { room ≤ 20000000 }
-    requires capability { j < 9 }
-    requires number { k < 144 }
-    ensures { result ≡ spare_at rest.now room capability.now.figures left.now.figures j k }
-{
-    let gain = if member(k, j) {
-        room.min(capability.sums[k])
-    } else {
-        room
-    };
-    (rest[k] + gain).saturating_sub(left.sums[k])
-}
+impl Pending {
+    // What is spare of the set number `k` for the pair's position, where that is outside it.
+    fn spare(&self, offer: &Offer, pair: Pair, k: usize) -> u64
+        requires { k < 144 }
+        ensures { result ≡ spare_at self.now.rest offer.now.room offer.now.capability.figures self.now.left.figures pair.capability k }
+    {
+        let gain = if member(k, pair.capability) {
+            offer.reach(k)
+        } else {
+            offer.room
+        };
+        (self.rest[k] + gain).saturating_sub(self.left.sums[k])
+    }
 
-// The most, up to `b`, that capability `j` of the line may give to position `q`.
-pub(crate) fn limit(
-    rest: &[u64],
-    room: u64,
-    capability: &Summed,
-    left: &Summed,
-    j: usize,
-    q: usize,
-    b: u64,
-) -> u64
-    requires sets { length rest.now ≡ 144 }
-    requires few { Under 100000000000 rest.now }
-    requires room { room ≤ 20000000 }
-    requires capability { j < 9 }
-    requires position { q < 9 }
-    ensures { LimitTo 144 rest.now room capability.now.figures left.now.figures j q b result }
-{
-    let mut d = b;
-    for k in 0..144 {
-        if !member(k, q) {
-            let spare = spare_of(rest, room, capability, left, j, k);
-            if spare < d {
-                d = spare;
+    // The most, up to `b`, that the offer may give at the pair. By number, since a set has a place in four tables.
+    pub(crate) fn limit(&self, offer: &Offer, pair: Pair, b: u64) -> u64
+        ensures { LimitTo 144 self.now.rest offer.now.room offer.now.capability.figures self.now.left.figures pair.capability pair.position b result }
+    {
+        let mut d = b;
+        for k in 0..144 {
+            if !member(k, pair.position) {
+                d = d.min(self.spare(offer, pair, k));
             }
         }
+        d
     }
-    d
 }

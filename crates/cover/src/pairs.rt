@@ -1,6 +1,5 @@
 // Which capability may cover which position.
-ghost use Rattle.std.specs.Prelude.{◌≡◌, ℕ, ◌<◌};
-ghost use Rattle.cover.specs.Amounts.{cap_at, pos_at};
+ghost use Rattle.std.specs.Prelude.{ℕ, ◌<◌};
 
 // Capability first, both by the place of the sub-type from 0. A cover's amounts stand in this order.
 pub const PAIRS: [(usize, usize); 14] = [
@@ -20,10 +19,10 @@ pub const PAIRS: [(usize, usize); 14] = [
     (8, 8),
 ];
 
-pub(crate) fn pair_at(t: usize) -> (usize, usize)
-    requires { t < 14 }
-    ensures capability { result.0 ≡ cap_at t }
-    ensures position { result.1 ≡ pos_at t }
-{
-    PAIRS[t]
+// One of them.
+#[derive(Clone, Copy)]
+pub(crate) struct Pair {
+    pub(crate) capability: usize,
+    pub(crate) position: usize,
+    ghost places: { (capability < 9) × (position < 9) },
 }

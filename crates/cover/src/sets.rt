@@ -1,20 +1,13 @@
 // The 144 closed sets of sub-types: each holds, with a position, every capability that may cover it.
 ghost use Rattle.std.specs.Prelude.{◌≡◌, ℕ, ◌<◌};
 ghost use Rattle.least.specs.Chains.{mem};
-ghost use Rattle.cover.specs.Sets.{start_at, mask_at};
 
 // The sets are numbered so that those from the number at `j` to the next hold the sub-type at place `j` and none
 // after it: each is the set as many numbers before it as there are of these, with `j`.
-const STARTS: [usize; 10] = [1, 2, 4, 8, 12, 16, 32, 48, 96, 144];
+pub(crate) const STARTS: [usize; 10] = [1, 2, 4, 8, 12, 16, 32, 48, 96, 144];
 
-pub(crate) fn start_of(j: usize) -> usize
-    requires { j < 10 }
-    ensures { result ≡ start_at j }
-{
-    STARTS[j]
-}
-
-// The members of each set: bit `j` stands for the sub-type at place `j`.
+// The members of each set: bit `j` stands for the sub-type at place `j`. Nine truths for each would say no more in
+// nine times the table.
 const MASKS: [u16; 144] = [
     0, 1, 2, 3, 4, 5, 6, 7, 12, 13, 14, 15, 28, 29, 30, 31, 32, 33, 34, 35, 36, 37, 38, 39, 44, 45,
     46, 47, 60, 61, 62, 63, 96, 97, 98, 99, 100, 101, 102, 103, 108, 109, 110, 111, 124, 125, 126,
@@ -26,18 +19,12 @@ const MASKS: [u16; 144] = [
     510, 511,
 ];
 
-fn mask_of(k: usize) -> u16
-    requires { k < 144 }
-    ensures { result ≡ mask_at k }
-{
-    MASKS[k]
-}
-
-// Whether the sub-type at place `j` belongs to the set number `k`.
+// Whether the sub-type at place `j` belongs to the set number `k`. Both stay plain indices: tables of figures and of
+// sums are gone through by them, in loops that know their bounds.
 pub(crate) fn member(k: usize, j: usize) -> bool
     requires number { k < 144 }
     requires place { j < 9 }
     ensures { result ≡ mem k j }
 {
-    mask_of(k) >> j & 1 == 1
+    MASKS[k] >> j & 1 == 1
 }

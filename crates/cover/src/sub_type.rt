@@ -3,7 +3,7 @@ ghost use Rattle.least.specs.SubType.{sub_type};
 ghost use Rattle.least.proofs.SubTypeLawful.{lawful_subtype, subtype_bound};
 
 use super::given::Given;
-use super::lacking::{asked_of, lack_of};
+use super::lacking::{asked_of, worst_set};
 use account::account::Account;
 use measure::backing::Backing;
 use measure::measure::Measure;
@@ -35,6 +35,7 @@ impl Measure for SubType {
             offline: given.offline,
         };
         let overall = overall_part(&standing, backing, StorageNet::Counted);
-        overall.max(lack_of(&given.reached, &asked_of(&standing)))
+        let worst = worst_set(&given.reached, &asked_of(&standing));
+        overall.max(worst.lack)
     }
 }

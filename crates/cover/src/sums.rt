@@ -1,8 +1,9 @@
 // Nine figures with their sums over the closed sets, so that a sum is read and not made.
-ghost use Rattle.std.specs.Prelude.{◌≡◌, ℕ, ◌+◌, ◌-◌, ◌<◌, ◌≤◌, length, slice_index, slice_set};
+ghost use Rattle.std.specs.Prelude.{◌≡◌, ℕ, ◌+◌, ◌-◌, ◌<◌, ◌≤◌, cond, length, slice_index, slice_set};
+ghost use Rattle.least.specs.Chains.{mem};
 ghost use Rattle.cover.specs.Sets.{Under, sum_to};
 
-use super::sets::{member, start_of};
+use super::sets::{STARTS, member};
 
 #[derive(Clone, Copy)]
 pub struct Summed {
@@ -13,9 +14,9 @@ pub struct Summed {
     ghost each: { (k : ℕ) → k < 144 → slice_index sums k ≡ sum_to 9 k figures },
 }
 
-// The figure added to each of the sums before `from` gives those from there to `to`.
-fn extend(sums: &mut [u64], from: usize, to: usize, figure: u64)
-    requires sets { length sums.old ≡ 144 }
+// The figure added to each of the sums before `from` gives those from there to `to`. By index, since each reads
+// an earlier sum of the table that it is written to.
+fn extend(sums: &mut [u64; 144], from: usize, to: usize, figure: u64)
     requires order { (from ≤ to) × ((to ≤ from + from) × (to ≤ 144)) }
     requires few { (k : ℕ) → k < from → slice_index sums.old k ≤ 46170000000 }
     requires low { figure ≤ 5130000000 }
@@ -28,32 +29,36 @@ fn extend(sums: &mut [u64], from: usize, to: usize, figure: u64)
     }
 }
 
+// What the sum over the set number `k` loses with `d` at place `j`.
+fn lost(k: usize, j: usize, d: u64) -> u64
+    requires number { k < 144 }
+    requires place { j < 9 }
+    ensures { result ≡ cond (mem k j) d 0 }
+{
+    if member(k, j) { d } else { 0 }
+}
+
 impl Summed {
     pub(crate) fn of(figures: [u64; 9]) -> Summed
         requires { Under 5130000000 figures }
         ensures { result.figures ≡ figures }
     {
         let mut sums = [0; 144];
-        for j in 0..9 {
-            extend(&mut sums, start_of(j), start_of(j + 1), figures[j]);
+        for (j, figure) in figures.iter().enumerate() {
+            extend(&mut sums, STARTS[j], STARTS[j + 1], *figure);
         }
         Summed { figures, sums }
     }
 
-    // The figure at place `j` less `d`.
-    pub(crate) fn less(&self, j: usize, d: u64) -> Summed
+    // Takes `d` from the figure at place `j`.
+    pub(crate) fn take(&mut self, j: usize, d: u64)
         requires place { j < 9 }
-        requires there { d ≤ slice_index self.now.figures j }
-        ensures { result.figures ≡ slice_set self.now.figures j (slice_index self.now.figures j - d) }
+        requires there { d ≤ slice_index self.old.figures j }
+        ensures { self.new.figures ≡ slice_set self.old.figures j (slice_index self.old.figures j - d) }
     {
-        let mut figures = self.figures;
-        figures[j] -= d;
-        let mut sums = self.sums;
-        for k in 0..144 {
-            if member(k, j) {
-                sums[k] -= d;
-            }
+        self.figures[j] -= d;
+        for (k, sum) in self.sums.iter_mut().enumerate() {
+            *sum -= lost(k, j, d);
         }
-        Summed { figures, sums }
     }
 }

@@ -3,8 +3,7 @@ ghost use Rattle.std.specs.Prelude.{◌≡◌, ℕ, ◌≤◌};
 ghost use Rattle.account.specs.Account.{account_view};
 ghost use Rattle.least.specs.SubType.{reserve, LeastUncovered};
 
-use super::given::Given;
-use super::lacking::{asked_of, lack_of};
+use super::lacking::worst_of;
 use account::account::Account;
 
 // The greatest lack of a closed set, which is that least.
@@ -13,7 +12,5 @@ pub fn least_uncovered(a: &Account) -> u64
     ensures least { LeastUncovered (account_view a.now) result }
     ensures small { result ≤ 46170000000 }
 {
-    let standing = a.standing();
-    let given = Given::of(a);
-    lack_of(&given.reached, &asked_of(&standing))
+    worst_of(a).lack
 }

@@ -15,20 +15,17 @@ more m n h w = record { reached = λ k. omega (arith, w.reached k); supply = ome
 pub loop-row-init : goal.loop-row-init
 loop-row-init c = ((λ k h. none_reached k), refl, refl, record { reached = λ k. omega (arith, none_reached k); supply = omega arith; offline = omega arith })
 
-pub with_row-given-requires : goal.with_row-given-requires
-with_row-given-requires c = more (30000000 * c.loop-row.row-index) 20000000000 (omega (arith, c.loop-row-test.true, c.args.a.now.few.1)) c.loop-row.invariant.3
-
 pub loop-row-preserved : goal.loop-row-preserved
 loop-row-preserved c =
     let a = c.args.a.now in
-    let adds = c.with_row-given.ensures.value in
+    let adds = c.add_row.ensures.value in
     let d = c.row-item.result in
     let lt = c.loop-row-test.true in
     let inv = c.loop-row.invariant in (
       (λ k h. adds.reached k h ∙ sum_turn (own_part (reach_of k) a) a.resources.now _ d lt c.row-item.is (inv.0 k h) refl),
       adds.supply ∙ sum_turn (own_part supply a) a.resources.now _ d lt c.row-item.is inv.1 refl,
       adds.offline ∙ sum_turn (own_part (λ x. x.offline) a) a.resources.now _ d lt c.row-item.is inv.2 refl,
-      more (30000000 * c.loop-row.row-index + 30000000) (30000000 * (c.loop-row.row-index + 1)) (omega arith) (c.with_row-given.ensures.small _ inv.3),
+      more (30000000 * c.loop-row.row-index + 30000000) (30000000 * (c.loop-row.row-index + 1)) (omega arith) (c.add_row.ensures.small _ inv.3),
     )
 
 pub returns : goal.returns

@@ -15,5 +15,5 @@ returns c =
     let given = c.of-given.ensures.value in
     let agree : (k : ℕ) → k < 9 → get_or c.asked_of.result.figures k 0 ≡ demand v k = λ k h. c.asked_of.ensures k h ∙ ap counted (stands.positions k h) in
     let whole : c.overall_part-overall.result ≡ overall v = c.overall_part-overall.ensures ∙ overall_counted a _ _ _ stands given.supply given.offline in
-    let rest : c.lack_of.result ≡ reserve v = reserve_is v _ _ _ given.reached agree c.lack_of.ensures.most in
+    let rest : c.worst_set-worst.result.lack ≡ reserve v = reserve_is v _ _ _ given.reached agree c.worst_set-worst.ensures.worst.most in
     omega (arith, c.max.ensures, whole, rest)

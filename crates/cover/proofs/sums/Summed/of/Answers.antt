@@ -7,22 +7,22 @@ pub loop-j-init : goal.loop-j-init
 loop-j-init c = (refl, only_first c.args.figures)
 
 pub extend-requires : goal.extend-requires
+unfolding start_at
 extend-requires c =
     let j = c.loop-j.j in
     let o = starts_order j c.loop-j-test.true in
-    let from = c.start_of.ensures in
-    let to = c.start_of-in-loop-j.ensures in
+    let lt = c.loop-j-test.true in
     record {
-      sets = c.loop-j.invariant.0;
-      order = (omega (arith, o.0, from, to), (omega (arith, o.1, from, to), omega (arith, o.2, to)));
-      few = λ k h. omega (arith, c.loop-j.invariant.1 k (omega (arith, from)), sum_under k 5130000000 c.args.figures c.requires);
+      order = (o.0, (o.1, o.2));
+      few = λ k h. omega (arith, c.loop-j.invariant.1 k h, sum_under k 5130000000 c.args.figures c.requires);
       low = c.requires j;
     }
 
 pub loop-j-preserved : goal.loop-j-preserved
+unfolding start_at
 loop-j-preserved c = (
   omega (arith, c.loop-j.invariant.0),
-  sums_more c.loop-j.j c.args.figures _ _ _ _ c.loop-j-test.true c.start_of.ensures c.start_of-in-loop-j.ensures c.loop-j.invariant.1 c.extend.ensures.kept c.extend.ensures.more,
+  sums_more c.loop-j.j c.args.figures _ _ _ _ c.loop-j-test.true refl refl c.loop-j.invariant.1 c.extend.ensures.kept c.extend.ensures.more,
 )
 
 pub invariant_of-result : goal.invariant_of-result

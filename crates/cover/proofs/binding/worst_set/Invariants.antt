@@ -1,5 +1,0 @@
-use Rattle.cover.specs.Binding.{Worst}
-use Rattle.cover.proofs.binding.worst_set.Given as goal
-
-abbrev pub invariant-loop-k : goal.invariant-loop-k
-invariant-loop-k l = Worst l.k l.reached l.asked.figures l.worst l.most
