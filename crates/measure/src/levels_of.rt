@@ -29,7 +29,7 @@ impl Levels {
 
     // Each level made of the two at its place.
     fn zip_with<F: Fn(u64, u64) -> u64>(self, other: Levels, f: F) -> Levels
-        requires { F.IsAlwaysCallable f }
+        requires { Made (λ x y _. F.pre f x y) self other self }
         ensures { Made (λ x y z. F.post f x y z) self other result }
     {
         Levels {
@@ -50,13 +50,12 @@ impl Levels {
         self.zip_with(self, |level, _| room.min(level))
     }
 
-    // The bounds keep each sum far from the end of its type, so that none is cut short.
     pub(crate) fn plus(self, more: Levels) -> Levels
         requires { (AtMost self 20000000000) × (AtMost more 20000000) }
         ensures value { (f g : List ℕ → ℕ) → IsLevels self f → IsLevels more g → IsLevels result (λ ks. f ks + g ks) }
         ensures small { (m : ℕ) → AtMost self m → AtMost result (m + 20000000) }
     {
-        self.zip_with(more, u64::saturating_add)
+        self.zip_with(more, |level, added| level + added)
     }
 
     // What is asked beyond what is served.

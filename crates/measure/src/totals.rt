@@ -1,4 +1,5 @@
-// What the lines of an account give together.
+// What the lines of an account give together. No `Backing` stands in it: that one's bound holds of whole
+// totals alone, and here lines are still being added.
 use super::levels::Levels;
 
 #[derive(Clone, Copy, Default)]
