@@ -17,6 +17,7 @@ pub struct Tables<'a> {
     ghost few: { (length loads.now ≤ max_rows) × (length resources.now ≤ max_rows) × (length trades.now ≤ max_rows) },
 }
 
+// It holds the lent slices themselves, as `Tables` does: a reader of an account asks it alone for its rows.
 #[derive(Clone, Copy)]
 pub struct Account<'a> {
     pub qse: u16,

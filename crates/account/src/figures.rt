@@ -14,6 +14,7 @@ use rows::load::LoadRow;
 use rows::reserves::Reserves;
 use std::array;
 
+// A pick by side, as `side_of` in plan.rt; both would still be here over a generic one, which says no more than a match.
 fn figures_on(figures: &Figures, side: Side) -> &FiguresSide
     ensures { plain_figures_side result.now ≡ figures_on side (plain_figures figures.now) }
 {

@@ -1,4 +1,8 @@
 // A book: single numbers, by which the tables that are lent to each call are read.
+//
+// Every call takes its four tables one by one, lent for reading or for writing as it needs them, and its signature says
+// so. A struct of them was tried: lent as a whole it asks for writing where a call only reads, and a call that writes
+// one table while it reads another through the struct has no rule in the borrow checker.
 ghost use Rattle.std.specs.Prelude.{◌≡◌, ℕ, ◌≤◌, true};
 ghost use Rattle.rows.specs.Limits.{max_rows, max_shortfall};
 

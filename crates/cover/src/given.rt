@@ -9,6 +9,8 @@ use account::account::Account;
 use account::line::Line;
 use rows::resource::ResourceRow;
 
+// The totals of `measure` have the same two sums beside another third part. One generic type would want a trait of that
+// part, with a start, a step, a relation and a bound, for these two uses.
 #[derive(Clone, Copy)]
 pub struct Given {
     // of each closed set, no line beyond its room

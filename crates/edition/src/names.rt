@@ -3,6 +3,7 @@ ghost use Rattle.edition.specs.Edition.{Named};
 
 use super::edition::Edition;
 
+// No `FromStr`: a word that names no edition is no error here, and its place in the line says what to do.
 pub fn named(word: &str) -> Option<Edition>
     ensures { Named word.now result }
 {

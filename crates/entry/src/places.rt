@@ -5,7 +5,7 @@ ghost use Rattle.entry.specs.Places.{places as places_of, place_at, size as size
 use super::form::{Form, Rule};
 use rows::limits::{MAX_KWH, MAX_POWER};
 
-// The least and the greatest number, and the rule beside them.
+// The least and the greatest number, and the rule beside them. A triple, since the tables below read as rows of one.
 pub type Place = (i64, i64, Rule);
 
 // A signed figure lies between this and its negative.

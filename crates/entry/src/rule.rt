@@ -5,7 +5,7 @@ ghost use Rattle.entry.specs.Rules.{Marked, ZeroUnless, Spans, TypedFor, RuleKep
 use super::form::Rule;
 use rows::codes::Kind;
 
-// The kind of a trade that moves a position.
+// The kind of a trade that moves a position; that case of `Traded` holds a sub-type, so no number can be taken from it.
 const POSITION: i64 = 3;
 
 fn marked(x: i64, kind: i64) -> bool

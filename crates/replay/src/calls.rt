@@ -21,7 +21,8 @@ pub enum Call<'a> {
     Reopen,
 }
 
-// What a call is answered.
+// What a call is answered: one level of cases and no `Result`, since not every refusal has a fault and runs are stated
+// by these cases.
 #[derive(Clone, Copy)]
 pub enum Answer {
     // the book's state does not permit the call, or it names no measure or no claim

@@ -14,7 +14,7 @@ use rows::qse::QseRow;
 use rows::resource::ResourceRow;
 use rows::trade::TradeRow;
 
-// One call, by the state of the book.
+// One call, by the state of the book. The tables stay apart, as they do for the calls of the book itself.
 fn apply<M: Measure>(
     call: Call,
     measures: &[M],

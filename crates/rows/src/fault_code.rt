@@ -5,6 +5,7 @@ ghost use Rattle.rows.specs.Codes.{fault_number, fault_place};
 use super::fault::Fault;
 use std::fmt;
 
+// Methods and no `From`: a refusal is reported by its number and its place together.
 impl Fault {
     pub fn number(self) -> u8
         ensures { result ≡ fault_number self }

@@ -15,6 +15,7 @@ pub struct ResourceSide {
     pub hsl: u32,
     pub lsl: i32,
     pub potential: u32,
+    // three lists, as they are entered and as the rules name them, not one list of triples
     pub offered: Reserves,
     pub cop: Reserves,
     pub qualified: Reserves,

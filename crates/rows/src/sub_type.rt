@@ -15,7 +15,8 @@ impl SubType {
 }
 
 impl Traded {
-    // The number of the sub-type, and 0 for capacity and energy.
+    // The number of the sub-type, and 0 for capacity and energy: it is entered so, and sums by sub-type stand by it.
+    // An `Option` would be turned into that number again at each use.
     pub fn sub_type_number(self) -> usize
         ensures value { result ≡ traded_sub self }
         ensures ten { result < 10 }
