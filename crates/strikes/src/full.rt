@@ -55,6 +55,7 @@ impl Lent {
         figured.ok().context("the figures are refused")
     }
 
+    // Each of the three lends another table for writing, and says its own words of a refusal.
     fn load(&mut self, book: &mut OpenBook, list: &[i64]) -> anyhow::Result<()> {
         let done = book.load(
             self.qses.as_slice(),
