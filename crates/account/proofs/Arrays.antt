@@ -3,13 +3,6 @@ use Rattle.std.proofs.Common.{◌≡◌, ℕ, ◌+◌, ◌<◌, ◌≢◌, List,
 use Rattle.std.proofs.lemmas.Bool.{cases_eq}
 
 module _ {X : Type 0} (xs : List X) (i : ℕ) (v d : X) (lt : i < length xs) where
-  -- what holds of the places below i holds below i + 1 once v is written at i
-  pub set_below : (P : ℕ → X → Type 0) → ((j : ℕ) → j < i → P j (get_or xs j d)) → P i v → (j : ℕ) → j < i + 1 → P j (get_or (set xs i v) j d)
-  set_below P below here =
-      below_more (λ j. P j (get_or (set xs i v) j d)) i
-      (λ j h. let ne : j ≢ i = omega arith in rw get_or-set_other (below j h))
-      (rw get_or-set_same here)
-
   -- what holds of every place, and of v, still holds of every place
   pub set_every : (Q : X → Type 0) → ((j : ℕ) → Q (get_or xs j d)) → Q v → (j : ℕ) → Q (get_or (set xs i v) j d)
   set_every Q every here j =

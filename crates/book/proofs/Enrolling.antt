@@ -3,21 +3,6 @@ use Rattle.std.proofs.Common.{◌≡◌, ℕ, zero, suc, ◌+◌, ◌<◌, ◌�
 use Rattle.std.proofs.lemmas.List.{drop_more, drop_all}
 use Rattle.shortfall.specs.Pool.{Among}
 
-module _ {X : Type 0} (f : X → ℕ) (n : ℕ) where
-  pub among_at : (xs : List X) (i : ℕ) (d : X) → i < length xs → f (get_or xs i d) ≡ n → Among (map f xs) n
-  among_at [] i d lt e = absurd (omega arith)
-  among_at (x ∷ xs) zero d lt e = inl e
-  among_at (x ∷ xs) (suc i) d lt e = inr (among_at xs i d (omega arith) e)
-
-  -- a number that is not at i is among the rows after it
-  pub among_after : (xs : List X) (i : ℕ) (d : X) → i < length xs → (f (get_or xs i d) ≡ n → ⊥) → Among (map f (drop i xs)) n → Among (map f (drop (i + 1) xs)) n
-  among_after xs i d lt other among =
-      let split = subst (λ l. Among (map f l) n) (drop_more xs i d lt) among in
-      ⊎_elim (λ e. absurd (other e)) (λ m. m) split
-
-  pub among_none : (xs : List X) (i : ℕ) → length xs ≤ i → Among (map f (drop i xs)) n → ⊥
-  among_none xs i le among = subst (λ l. Among (map f l) n) (drop_all i xs le) among
-
 -- a number among others has a place
 pub place_among : (ns : List ℕ) (n : ℕ) → Among ns n → (k : ℕ) × (k < length ns) × (get_or ns k 0 ≡ n)
 place_among [] n h = absurd h
