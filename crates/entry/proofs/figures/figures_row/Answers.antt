@@ -8,16 +8,6 @@ use Rattle.entry.proofs.Joined.{cons_same, append_same, firsts_and_rest}
 use Rattle.entry.proofs.Parts.{whole_kept, sides_kept}
 use Rattle.entry.proofs.figures.figures_row.Goals as goal
 
-pub overflow_cast-figures-2 : goal.overflow_cast-figures-2
-overflow_cast-figures-2 c =
-    let g : AllKept Figures c.args.list.now = c.in_ok-check.ensures in
-    cast_32 (at c.args.list.now 2) (omega arith) (g.each 2 (omega arith)).limited
-
-pub overflow_cast-figures-3 : goal.overflow_cast-figures-3
-overflow_cast-figures-3 c =
-    let g : AllKept Figures c.args.list.now = c.in_ok-check.ensures in
-    cast_32 (at c.args.list.now 3) (omega arith) (g.each 3 (omega arith)).limited
-
 pub figures_side-requires : goal.figures_side-requires
 figures_side-requires c =
     (_, (sides_kept Figures (length figures_head) (length figures_side) c.args.list.now c.in_ok-check.ensures (omega arith) c.split_at.ensures.front c.split_at.ensures.back).0)

@@ -12,11 +12,6 @@ use Rattle.entry.proofs.Parts.{whole_kept, sides_kept}
 use Rattle.entry.proofs.Ruled.{mark_unset, nothing_before, no_potential, lsl_up}
 use Rattle.entry.proofs.resource.resource_row.Goals as goal
 
-pub overflow_cast-result-2 : goal.overflow_cast-result-2
-overflow_cast-result-2 c =
-    let g : AllKept Resource c.args.list.now = c.in_ok-check.ensures in
-    cast_32 (at c.args.list.now 4) (omega arith) (g.each 4 (omega arith)).limited
-
 pub resource_side-requires : goal.resource_side-requires
 resource_side-requires c =
     (_, (sides_kept Resource (length resource_head) (length resource_side) c.args.list.now c.in_ok-check.ensures (omega arith) c.split_at.ensures.front c.split_at.ensures.back).0)

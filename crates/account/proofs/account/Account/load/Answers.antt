@@ -5,11 +5,6 @@ use Rattle.account.specs.Own.{owns_load}
 use Rattle.account.proofs.Rows.{sum_turn, sum_all, sum_map, sum_plain}
 use Rattle.account.proofs.account.Account.load.Goals as goal
 
-pub loop-l-preserved : goal.loop-l-preserved
-loop-l-preserved c =
-    let a = c.args.self.now in
-    (sum_turn (load_in a.qse) a.loads.now _ c.l-item.result c.loop-l-test.true c.l-item.is c.loop-l.invariant.0 c.load_in-sum.ensures.value, omega (arith, c.loop-l.invariant.1, c.load_in-sum.ensures.small))
-
 pub returns : goal.returns
 returns c =
     let a = c.args.self.now in
