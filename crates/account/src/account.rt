@@ -17,7 +17,7 @@ pub struct Tables<'a> {
     ghost few: { (length loads.now ≤ max_rows) × (length resources.now ≤ max_rows) × (length trades.now ≤ max_rows) },
 }
 
-// It holds the lent slices themselves, as `Tables` does: a reader of an account asks it alone for its rows.
+// It holds the lent slices themselves, as `Tables` does: with `Tables` inside, every reader would name one more field.
 #[derive(Clone, Copy)]
 pub struct Account<'a> {
     pub qse: u16,

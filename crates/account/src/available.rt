@@ -51,8 +51,8 @@ pub(crate) fn available(row: &ResourceRow, side: Side) -> u32
     ensures value { result ≡ available_of side (plain_resource row.now) }
     ensures small { result ≤ max_power }
 {
-    if row.decommitted {
-        return row.before;
+    if let Some(before) = row.decommitted {
+        return before;
     }
     own_available(row.kind, side_of(row, available_side(row, side)))
 }

@@ -6,7 +6,7 @@ ghost use Rattle.rows.specs.Limits.{Powers, max_power};
 pub struct Line {
     // what the unit can move in all; no service goes beyond it
     pub room: u32,
-    // by sub-type, in their order
+    // by sub-type, in their order; nine of thirteen plain numbers, and no `Reserves`, since measures read them so
     pub capability: [u32; 9],
     pub available: u32,
     // what of ECRS and Non-Spin an off-line unit serves

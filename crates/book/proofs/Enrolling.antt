@@ -1,7 +1,11 @@
 -- Which numbers are among the rows.
-use Rattle.std.proofs.Common.{◌≡◌, ℕ, zero, suc, ◌+◌, ◌<◌, ◌≤◌, List, [], ◌∷◌, map, length, get_or, take, drop, refl, subst, inl, inr, ⊎_elim, arith}
-use Rattle.std.proofs.lemmas.List.{drop_more, drop_all}
+use Rattle.std.proofs.Common.{◌≡◌, ℕ, zero, suc, ◌<◌, ◌≤◌, List, [], ◌∷◌, map, length, get_or, take, refl, inl, inr, arith}
 use Rattle.shortfall.specs.Pool.{Among}
+
+pub among_at : {X : Type 0} (f : X → ℕ) (n : ℕ) (xs : List X) (i : ℕ) (d : X) → i < length xs → f (get_or xs i d) ≡ n → Among (map f xs) n
+among_at f n [] i d lt e = absurd (omega arith)
+among_at f n (x ∷ xs) zero d lt e = inl e
+among_at f n (x ∷ xs) (suc i) d lt e = inr (among_at f n xs i d (omega arith) e)
 
 -- a number among others has a place
 pub place_among : (ns : List ℕ) (n : ℕ) → Among ns n → (k : ℕ) × (k < length ns) × (get_or ns k 0 ≡ n)

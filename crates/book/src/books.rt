@@ -1,6 +1,7 @@
 // A book: single numbers, by which the tables that are lent to each call are read.
 //
-// Every call takes its four tables one by one, lent for reading or for writing as it needs them, and its signature says
+// The tables are the caller's, and a book keeps how many rows of each are its own: no heap is used in the library.
+// Every call takes the four one by one, lent for reading or for writing as it needs them, and its signature says
 // so. A struct of them was tried: lent as a whole it asks for writing where a call only reads, and a call that writes
 // one table while it reads another through the struct has no rule in the borrow checker.
 ghost use Rattle.std.specs.Prelude.{◌≡◌, ℕ, ◌≤◌, true};

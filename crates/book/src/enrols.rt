@@ -7,12 +7,11 @@ ghost use Rattle.book.specs.Entries.{Enrols, new_qse};
 use super::append::append;
 use super::books::OpenBook;
 use super::judge::{is_broken, is_enrolled};
-use entry::checks::is_within;
+use super::reads::qse_number;
 use rows::fault::Fault;
-use rows::figures::{Figures, FiguresSide};
+use rows::figures::NO_FIGURES;
 use rows::load::LoadRow;
 use rows::qse::QseRow;
-use rows::reserves::NO_RESERVES;
 use rows::resource::ResourceRow;
 use rows::trade::TradeRow;
 
@@ -24,21 +23,9 @@ fn new_row(number: u16) -> QseRow
     requires { 1 ≤ number }
     ensures { plain_qse result ≡ new_qse number }
 {
-    let side = FiguresSide {
-        dc_import: 0,
-        storage_net: 0,
-        positions: NO_RESERVES,
-    };
     QseRow {
         number,
-        figures: Figures {
-            credit: 0,
-            purchase: 0,
-            sale: 0,
-            tie: false,
-            snapshot: side,
-            adjusted: side,
-        },
+        figures: NO_FIGURES,
         shortfall: 0,
         cents: 0,
     }
@@ -59,10 +46,7 @@ impl OpenBook {
         if is_broken(self.ledger.counts, qses, loads, resources, trades) {
             return Err(Fault::BrokenTable);
         }
-        if !is_within(number, 1, 65535) {
-            return Err(Fault::OutOfLimits { place: 1 });
-        }
-        let number = number as u16;
+        let number = qse_number(number)?;
         let at = self.ledger.counts.qses;
         if is_enrolled(&qses[0..at], number) {
             return Err(Fault::AlreadyEnrolled);

@@ -38,7 +38,7 @@ pub(crate) fn are_enrolled(qses: &[QseRow], one: u16, other: u16) -> bool
     is_enrolled(qses, one) && is_enrolled(qses, other)
 }
 
-// The earliest row of a QSE.
+// The earliest row of a QSE. By a `for`: `position` was tried, and what it gives could not be brought to this statement.
 pub(crate) fn place_of(qses: &[QseRow], number: u16) -> Option<usize>
     ensures { PlaceOf (map (λ q. q.number) qses.now) number result }
 {

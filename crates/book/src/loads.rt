@@ -13,6 +13,7 @@ use rows::qse::QseRow;
 use rows::resource::ResourceRow;
 use rows::trade::TradeRow;
 
+// A resource is added in the same steps; row, table and count would all be handed to a common one.
 impl OpenBook {
     // A load more, at the end of its table.
     pub fn load(

@@ -52,6 +52,8 @@ fn write_cover(a: &Account, out: &mut [[u32; 14]]) -> u64
     least
 }
 
+// The table is the caller's, who may lend a longer one: no heap is used in the library.
+//
 // Writes fourteen amounts for each of the account's lines in their order, and gives what they leave
 // uncovered. Nothing is written where `out` has fewer rows than the account has lines.
 pub fn cover(a: &Account, out: &mut [[u32; 14]]) -> Result<u64, Fault>

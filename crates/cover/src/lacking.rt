@@ -12,7 +12,8 @@ use super::sums::Summed;
 use account::account::Account;
 use account::standing::Standing;
 
-// A closed set by its number, and what it lacks in kW.
+// A closed set by its number, and what it lacks in kW. The bound of the lack stands in clauses, since it is handed on as
+// a plain number.
 #[derive(Clone, Copy)]
 pub(crate) struct WorstSet {
     pub(crate) number: usize,

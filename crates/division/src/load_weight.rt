@@ -6,6 +6,7 @@ use super::weighed::Weighed;
 use rows::limits::MAX_CENTS;
 use rows::load::LoadRow;
 
+// `cents` and `add_cents` stand in both row types: the field is under a limit, so no `&mut` of it can be lent out.
 impl Weighed for LoadRow {
     ghost weighs = { λ x. x.kwh };
 

@@ -4,7 +4,6 @@ ghost use Rattle.rows.specs.Codes.{sides_number as sides_code, sub_number, trade
 ghost use Rattle.drawn.specs.Draws.{next_state, number_at};
 ghost use Rattle.drawn.specs.Lists.{drawn_trade};
 
-use super::codes::traded_number;
 use super::draws::Draws;
 use rows::codes::{Sides, SubType, Traded};
 use std::alloc::AllocError;
@@ -17,17 +16,7 @@ impl Draws {
         ensures state { self.new.state ≡ next_state self.old.state }
         ensures number { sub_number result ≡ number_at self.new.state 8 + 1 }
     {
-        match self.up_to(8) {
-            0 => SubType::RegUp,
-            1 => SubType::RegDown,
-            2 => SubType::Pfr,
-            3 => SubType::Ufr,
-            4 => SubType::Ffr,
-            5 => SubType::Ecs,
-            6 => SubType::Ecm,
-            7 => SubType::Nss,
-            _ => SubType::Nsm,
-        }
+        SubType::try_from(i64::from(self.up_to(8)) + 1).unwrap()
     }
 
     // A sub-type is drawn for each kind.
@@ -49,11 +38,7 @@ impl Draws {
         ensures state { self.new.state ≡ next_state self.old.state }
         ensures number { sides_code result ≡ number_at self.new.state 2 + 1 }
     {
-        match self.up_to(2) {
-            0 => Sides::SnapshotOnly,
-            1 => Sides::AdjustedOnly,
-            _ => Sides::Both,
-        }
+        Sides::try_from(i64::from(self.up_to(2)) + 1).unwrap()
     }
 
     // A trade between the QSEs: of capacity, energy or a position, on one side or both.
@@ -64,7 +49,7 @@ impl Draws {
         let sides = self.sides();
         let kw = i64::from(self.up_to(MOST_TRADED)) + 1;
         Ok(vec![in self.heap;
-            traded_number(traded),
+            traded.number(),
             traded.sub_type_number() as i64,
             sides as i64,
             seller,

@@ -1,5 +1,5 @@
 -- What the rules of a resource's places say of its row.
-use Rattle.std.proofs.Common.{◌≡◌, ℕ, true, false, eqb, List, ℤ, pos, ◌≤ℤ◌, sym, refl, ap, ◌∙◌, inl, inr, arith, w64, of_z}
+use Rattle.std.proofs.Common.{◌≡◌, ℕ, true, false, Some, None, Option, is_some, eqb, List, ℤ, pos, ◌≤ℤ◌, sym, refl, ap, ◌∙◌, inl, inr, arith, w64, of_z}
 use Rattle.std.proofs.lemmas.Int.{ints}
 use Rattle.std.proofs.lemmas.Bool.{both_ways}
 use borrow.Author.Tests.{clash}
@@ -8,9 +8,9 @@ use Rattle.rows.specs.Rows.{PlainSide}
 use Rattle.rows.specs.declared.codes.Kind.{Kind}
 use Rattle.rows.specs.declared.codes.Kind.TheVariants.{Generation, Renewable, Storage, LoadResource}
 use Rattle.entry.specs.Places.{at, resource_side}
-use Rattle.entry.specs.Rules.{Marked, ZeroUnless}
+use Rattle.entry.specs.Rules.{Marked}
 use Rattle.entry.specs.Parts.{PartKept}
-use Rattle.entry.specs.Numbers.{side_numbers}
+use Rattle.entry.specs.Numbers.{mark, side_numbers}
 
 -- a mark that is 0 is not set, and one that is 1 is
 zero_unset : (x : ℤ) → x ≡ pos 0 → eqb (of_z w64 x) 1 ≡ false
@@ -19,14 +19,18 @@ zero_unset x e = rw e refl
 one_set : (x : ℤ) → x ≡ pos 1 → eqb (of_z w64 x) 1 ≡ true
 one_set x e = rw e refl
 
-pub mark_unset : (kind : Kind) (x y : ℤ) → y ≡ pos (kind_number kind) → Marked x y → is_unmarked kind ≡ true → eqb (of_z w64 x) 1 ≡ false
-mark_unset Generation x y e m u = absurd (clash u)
-mark_unset Renewable x y e m u = elim m [ inl z ↦ zero_unset x z | inr n ↦ absurd (n.0 e) ]
-mark_unset Storage x y e m u = absurd (clash u)
-mark_unset LoadResource x y e m u = elim m [ inl z ↦ zero_unset x z | inr n ↦ absurd (n.1 e) ]
+mark_zero : (kind : Kind) (x y : ℤ) → y ≡ pos (kind_number kind) → Marked x y → is_unmarked kind ≡ true → x ≡ pos 0
+mark_zero Generation x y e m u = absurd (clash u)
+mark_zero Renewable x y e m u = elim m [ inl z ↦ z | inr n ↦ absurd (n.0 e) ]
+mark_zero Storage x y e m u = absurd (clash u)
+mark_zero LoadResource x y e m u = elim m [ inl z ↦ z | inr n ↦ absurd (n.1 e) ]
 
-pub nothing_before : (b : ℕ) (x y : ℤ) → pos b ≡ x → ZeroUnless x y (pos 1) → eqb (of_z w64 y) 1 ≡ false → b ≡ 0
-nothing_before b x y e r m = elim r [ inl z ↦ omega (arith, ints) | inr o ↦ absurd (both_ways (eqb (of_z w64 y) 1) m (one_set y o)) ]
+pub mark_unset : (kind : Kind) (x y : ℤ) → y ≡ pos (kind_number kind) → Marked x y → is_unmarked kind ≡ true → eqb (of_z w64 x) 1 ≡ false
+mark_unset kind x y e m u = zero_unset x (mark_zero kind x y e m u)
+
+pub none_marked : (kind : Kind) (r : Option ℕ) (x y : ℤ) → y ≡ pos (kind_number kind) → Marked x y → is_unmarked kind ≡ true → mark (is_some r) ≡ x → r ≡ None
+none_marked kind None x y e m u s = refl
+none_marked kind (Some kw) x y e m u s = absurd (omega (arith, ints, s, mark_zero kind x y e m u))
 
 numbered_renewable : (kind : Kind) → pos (kind_number kind) ≡ pos (kind_number Renewable) → is_renewable kind ≡ true
 numbered_renewable Generation e = absurd (omega (arith, ints))

@@ -39,7 +39,8 @@ pub fn check(form: Form, list: &[i64]) -> Result<(), Fault>
     if list.len() != n {
         return Err(Fault::WrongLength);
     }
-    // over places and not numbers: each is judged with the number before it, and a search by `find` says no less
+    // over places, since each number is judged with the one before it; a search by `find` was tried, and what it gives
+    // could not be shown to be the first bad place
     for i in 0..n {
         if !keeps(form, list, i) {
             return Err(Fault::OutOfLimits {

@@ -1,8 +1,10 @@
-// The code of a trade, which two numbers stand for.
-ghost use Rattle.std.specs.Prelude.{◌≡◌, pos};
-ghost use Rattle.rows.specs.Codes.{traded_number, traded_sub};
+// What two numbers stand for together.
+ghost use Rattle.std.specs.Prelude.{◌≡◌, ◌≤◌, pos, is_some};
+ghost use Rattle.rows.specs.Limits.{max_power};
+ghost use Rattle.rows.specs.Codes.{traded_number, traded_sub, kw_before};
 ghost use Rattle.entry.specs.Keeps.{Within};
-ghost use Rattle.entry.specs.Rules.{TypedFor};
+ghost use Rattle.entry.specs.Numbers.{mark};
+ghost use Rattle.entry.specs.Rules.{TypedFor, ZeroUnless};
 
 use rows::codes::{SubType, Traded};
 
@@ -21,4 +23,16 @@ pub(crate) fn traded_of(x: i64, sub: i64) -> Traded
             sub_type: SubType::try_from(sub).unwrap(),
         },
     }
+}
+
+// The kW before a decommitment, where its mark is set.
+pub(crate) fn decommitted_at(marked: i64, kw: i64) -> Option<u32>
+    requires marked { Within marked (pos 0) (pos 1) }
+    requires kw { Within kw (pos 0) (pos max_power) }
+    requires rule { ZeroUnless kw marked (pos 1) }
+    ensures mark { mark (is_some result) ≡ marked }
+    ensures kw { pos (kw_before result) ≡ kw }
+    ensures limit { kw_before result ≤ max_power }
+{
+    if marked == 1 { Some(kw as u32) } else { None }
 }

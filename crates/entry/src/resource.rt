@@ -7,6 +7,7 @@ ghost use Rattle.entry.specs.Parts.{Fits};
 ghost use Rattle.entry.specs.Places.{resource_side};
 
 use super::checks::check;
+use super::codes::decommitted_at;
 use super::form::Form;
 use super::places::{COP, OFFERED, QUALIFIED, RESOURCE_SIDE_SIZE};
 use super::powers::nine;
@@ -41,8 +42,7 @@ pub fn resource_row(list: &[i64]) -> Result<ResourceRow, Fault>
         qse: *qse as u16,
         kind: Kind::try_from(*kind).unwrap(),
         outage: *outage == 1,
-        decommitted: *decommitted == 1,
-        before: *before as u32,
+        decommitted: decommitted_at(*decommitted, *before),
         snapshot: resource_side(snapshot),
         adjusted: resource_side(adjusted),
     })

@@ -1,6 +1,6 @@
 // Rows to fill tables with before a book writes them.
 use rows::codes::{Kind, Sides, Status, Traded};
-use rows::figures::{Figures, FiguresSide};
+use rows::figures::NO_FIGURES;
 use rows::load::LoadRow;
 use rows::qse::QseRow;
 use rows::reserves::NO_RESERVES;
@@ -8,21 +8,9 @@ use rows::resource::{ResourceRow, ResourceSide};
 use rows::trade::TradeRow;
 
 pub(crate) fn blank_qse() -> QseRow {
-    let side = FiguresSide {
-        dc_import: 0,
-        storage_net: 0,
-        positions: NO_RESERVES,
-    };
     QseRow {
         number: 1,
-        figures: Figures {
-            credit: 0,
-            purchase: 0,
-            sale: 0,
-            tie: false,
-            snapshot: side,
-            adjusted: side,
-        },
+        figures: NO_FIGURES,
         shortfall: 0,
         cents: 0,
     }
@@ -51,8 +39,7 @@ pub(crate) fn blank_resource() -> ResourceRow {
         qse: 1,
         kind: Kind::Generation,
         outage: false,
-        decommitted: false,
-        before: 0,
+        decommitted: None,
         snapshot: side,
         adjusted: side,
     }

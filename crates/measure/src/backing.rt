@@ -1,4 +1,5 @@
-// What the lines of an account put behind its load and reserves.
+// What the lines of an account put behind its load and reserves. It is made from the totals of the edition at hand, of
+// which each has its own.
 ghost use Rattle.std.specs.Prelude.{◌≤◌};
 
 #[derive(Clone, Copy)]

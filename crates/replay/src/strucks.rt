@@ -39,6 +39,8 @@ fn claim_next(
     }
 }
 
+// Charging, below, goes the same way with other tables and another answer; a common step would be handed all of it.
+//
 // The claim at a place of the purse handed back; a refused one goes back to its place.
 fn hand_back_at(
     book: &mut StruckBook,

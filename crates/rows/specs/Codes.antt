@@ -96,6 +96,11 @@ abbrev pub Reads : {C E : Type 0} → (C → ℕ) → ℕ → ℕ → ℤ → Re
 Reads number low high x (Ok c) = pos (number c) ≡ x
 Reads number low high x (Err e) = (pos low ≤ℤ x) × (x ≤ℤ pos high) → ⊥
 
+-- the kW before a decommitment, and 0 where there was none
+abbrev pub kw_before : Option ℕ → ℕ
+kw_before None = 0
+kw_before (Some kw) = kw
+
 abbrev pub is_renewable : Kind → Bool
 is_renewable Generation = false
 is_renewable Renewable = true

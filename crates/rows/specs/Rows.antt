@@ -1,5 +1,6 @@
 -- Rows as plain records: what a row says, without the proofs of its limits.
-use Rattle.std.specs.Prelude.{ℕ, Bool, List, ℤ}
+use Rattle.std.specs.Prelude.{ℕ, Bool, List, ℤ, is_some}
+use Rattle.rows.specs.Codes.{kw_before}
 use Rattle.rows.specs.declared.codes.Kind.{Kind}
 use Rattle.rows.specs.declared.codes.Status.{Status}
 use Rattle.rows.specs.declared.codes.Sides.{Sides}
@@ -64,8 +65,8 @@ plain_resource r = record {
   qse = r.qse;
   kind = r.kind;
   outage = r.outage;
-  decommitted = r.decommitted;
-  before = r.before;
+  decommitted = is_some r.decommitted;
+  before = kw_before r.decommitted;
   snapshot = plain_side r.snapshot;
   adjusted = plain_side r.adjusted;
 }

@@ -2,7 +2,7 @@
 ghost use Rattle.std.specs.Prelude.{ℕ, ◌≤◌, ◌≤ℤ◌};
 ghost use Rattle.rows.specs.Limits.{max_power, lowest_power, highest_power};
 
-use super::reserves::Reserves;
+use super::reserves::{NO_RESERVES, Reserves};
 
 // One side of the figures.
 #[derive(Clone, Copy)]
@@ -27,3 +27,19 @@ pub struct Figures {
     pub adjusted: FiguresSide,
     ghost powers: { (credit ≤ max_power) × (purchase ≤ max_power) × (sale ≤ max_power) },
 }
+
+// The figures of a QSE that has entered none.
+pub const NO_FIGURES: Figures = Figures {
+    credit: 0,
+    purchase: 0,
+    sale: 0,
+    tie: false,
+    snapshot: NO_SIDE,
+    adjusted: NO_SIDE,
+};
+
+const NO_SIDE: FiguresSide = FiguresSide {
+    dc_import: 0,
+    storage_net: 0,
+    positions: NO_RESERVES,
+};

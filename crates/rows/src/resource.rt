@@ -1,6 +1,6 @@
 // A resource of a QSE.
-ghost use Rattle.std.specs.Prelude.{◌≡◌, ℕ, ◌≤◌, true, false, pos, ◌≤ℤ◌};
-ghost use Rattle.rows.specs.Codes.{is_renewable, is_storage, is_unmarked};
+ghost use Rattle.std.specs.Prelude.{◌≡◌, ℕ, ◌≤◌, true, false, None, pos, ◌≤ℤ◌};
+ghost use Rattle.rows.specs.Codes.{is_renewable, is_storage, is_unmarked, kw_before};
 ghost use Rattle.rows.specs.Limits.{max_power, lowest_power};
 
 use super::codes::{Kind, Status};
@@ -28,14 +28,13 @@ pub struct ResourceRow {
     pub qse: u16,
     pub kind: Kind,
     pub outage: bool,
-    pub decommitted: bool,
-    // kW before the decommitment
-    pub before: u32,
+    // the kW before the decommitment, where the resource is decommitted
+    pub decommitted: Option<u32>,
     pub snapshot: ResourceSide,
     pub adjusted: ResourceSide,
     ghost named: { 1 ≤ qse },
-    ghost marks: { is_unmarked kind ≡ true → (outage ≡ false) × (decommitted ≡ false) },
-    ghost instead: { (before ≤ max_power) × (decommitted ≡ false → before ≡ 0) },
+    ghost marks: { is_unmarked kind ≡ true → (outage ≡ false) × (decommitted ≡ None) },
+    ghost instead: { kw_before decommitted ≤ max_power },
     ghost wind: { is_renewable kind ≡ false → (snapshot.potential ≡ 0) × (adjusted.potential ≡ 0) },
     ghost charging: { is_storage kind ≡ false → (pos 0 ≤ℤ snapshot.lsl) × (pos 0 ≤ℤ adjusted.lsl) },
 }

@@ -1,6 +1,6 @@
-// The place of a sub-type among the nine.
-ghost use Rattle.std.specs.Prelude.{◌≡◌, ℕ, ◌<◌};
-ghost use Rattle.rows.specs.Codes.{sub_number, traded_sub};
+// The numbers of sub-types and of trades.
+ghost use Rattle.std.specs.Prelude.{◌≡◌, ℕ, ◌<◌, pos};
+ghost use Rattle.rows.specs.Codes.{sub_number, traded_number, traded_sub};
 
 use super::codes::{SubType, Traded};
 
@@ -15,6 +15,17 @@ impl SubType {
 }
 
 impl Traded {
+    // Its kind, 1 to 3.
+    pub fn number(self) -> i64
+        ensures { result ≡ pos (traded_number self) }
+    {
+        match self {
+            Traded::Capacity => 1,
+            Traded::Energy => 2,
+            Traded::Position { sub_type: _ } => 3,
+        }
+    }
+
     // The number of the sub-type, and 0 for capacity and energy: it is entered so, and sums by sub-type stand by it.
     // An `Option` would be turned into that number again at each use.
     pub fn sub_type_number(self) -> usize

@@ -66,6 +66,7 @@ impl Desk {
         append(&mut self.qses, MAX_QSES, row)
     }
 
+    // Loads and resources go the same way into their own tables.
     pub(crate) fn load(&mut self, list: &[i64]) -> Result<(), Refusal> {
         let row = load_row(list)?;
         self.known(row.qse)?;

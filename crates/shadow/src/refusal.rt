@@ -28,7 +28,7 @@ impl<T: Drop> From<AllocFailed<T>> for Refusal {
     }
 }
 
-// The cause in words; one that no line of this input meets stands by its number alone.
+// The cause in this program's words; one that no line of this input meets stands by its number alone.
 fn words(fault: Fault) -> &'static str {
     match fault {
         Fault::WrongLength => "the list has another number of figures",

@@ -65,7 +65,7 @@ fn report_grouped(rt: &HostRuntime, parts: &Breakdown) -> io::Result<()> {
 
 // A line for each unit of the QSE, counted from 1, that serves a reserve.
 fn report_cover(rt: &HostRuntime, a: &Account, table: &[[u32; 14]]) -> io::Result<()> {
-    let units = a.resources.iter().filter(|row| row.qse == a.qse).count();
+    let units = a.resources.iter().filter(|row| a.owns(row)).count();
     for (unit, amounts) in (1usize..).zip(table.iter().take(units)) {
         report_unit(rt, unit, amounts)?;
     }

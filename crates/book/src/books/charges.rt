@@ -26,11 +26,7 @@ fn pot_of(claim: &Claim, total: u32) -> u32
     ensures most { result ≤ claim.now.cents }
 {
     let most = u64::from(claim.rate) * u64::from(total) / 1000;
-    if most < u64::from(claim.cents) {
-        most as u32
-    } else {
-        claim.cents
-    }
+    most.min(u64::from(claim.cents)) as u32
 }
 
 // Whether each row can take any claim.

@@ -1,5 +1,4 @@
-use Rattle.std.proofs.Common.{arith, rules, below_more}
-use Rattle.entry.proofs.Kept.{first_bad}
+use Rattle.std.proofs.Common.{below_more}
 use Rattle.entry.proofs.checks.check.Goals as goal
 
 pub loop-i-preserved : goal.loop-i-preserved

@@ -3,7 +3,7 @@ use Rattle.std.proofs.lemmas.List.{take_rest}
 use Rattle.entry.specs.Places.{at, figures_head, figures_side}
 use Rattle.entry.specs.Keeps.{AllKept}
 use Rattle.entry.specs.declared.form.Form.TheVariants.{Figures}
-use Rattle.entry.proofs.Casts.{cast_back, mark_back, cast_16, cast_32, cast_most}
+use Rattle.entry.proofs.Casts.{cast_back, mark_back, cast_16, cast_most}
 use Rattle.entry.proofs.Joined.{cons_same, append_same, firsts_and_rest}
 use Rattle.entry.proofs.Parts.{whole_kept, sides_kept}
 use Rattle.entry.proofs.figures.figures_row.Goals as goal

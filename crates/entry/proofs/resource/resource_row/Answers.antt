@@ -6,11 +6,18 @@ use Rattle.rows.specs.Rows.{plain_side}
 use Rattle.entry.specs.Places.{at, resource_head, resource_side}
 use Rattle.entry.specs.Keeps.{AllKept}
 use Rattle.entry.specs.declared.form.Form.TheVariants.{Resource}
-use Rattle.entry.proofs.Casts.{cast_back, read_back, mark_back, cast_32, cast_least, cast_most}
+use Rattle.entry.proofs.Casts.{cast_back, read_back, mark_back, cast_least}
 use Rattle.entry.proofs.Joined.{cons_same, append_same, firsts_and_rest}
 use Rattle.entry.proofs.Parts.{whole_kept, sides_kept}
-use Rattle.entry.proofs.Ruled.{mark_unset, nothing_before, no_potential, lsl_up}
+use Rattle.entry.proofs.Ruled.{mark_unset, none_marked, no_potential, lsl_up}
 use Rattle.entry.proofs.resource.resource_row.Goals as goal
+
+pub decommitted_at-requires-clause-rule : goal.decommitted_at-requires-clause-rule
+decommitted_at-requires-clause-rule c =
+    let xs = c.args.list.now in
+    let g : AllKept Resource xs = c.in_ok-check.ensures in
+    let w = (whole_kept Resource xs g).limited in
+    rw (read_back (at xs 4) (omega arith) (w 4 (omega arith)), read_back (at xs 3) (omega arith) (w 3 (omega arith))) (g.each 4 (omega arith)).ruled
 
 pub resource_side-requires : goal.resource_side-requires
 resource_side-requires c =
@@ -35,8 +42,8 @@ invariant_of-result c =
     let sides = sides_kept Resource (length resource_head) (length resource_side) xs g (omega arith) c.split_at.ensures.front c.split_at.ensures.back in
     record {
       named = cast_least (at xs 0) (omega arith) (w 0 (omega arith));
-      marks = λ m. (mark_unset kind (at xs 2) (at xs 1) y (g.each 2 (omega arith)).ruled m, mark_unset kind (at xs 3) (at xs 1) y (g.each 3 (omega arith)).ruled m);
-      instead = (cast_most (at xs 4) (omega arith) (w 4 (omega arith)), λ m. nothing_before _ (at xs 4) (at xs 3) (cast_back (at xs 4) (omega arith) (w 4 (omega arith))) (g.each 4 (omega arith)).ruled m);
+      marks = λ m. (mark_unset kind (at xs 2) (at xs 1) y (g.each 2 (omega arith)).ruled m, none_marked kind c.decommitted_at.result (at xs 3) (at xs 1) y (g.each 3 (omega arith)).ruled m (c.decommitted_at.ensures.mark ∙ read_back (at xs 3) (omega arith) (w 3 (omega arith))));
+      instead = c.decommitted_at.ensures.limit;
       wind = λ m. (no_potential kind (at xs 1) y _ s sides.0 es m, no_potential kind (at xs 1) y _ t sides.1 et m);
       charging = λ m. (lsl_up kind (at xs 1) y _ s sides.0 es m, lsl_up kind (at xs 1) y _ t sides.1 et m);
     }
@@ -50,8 +57,8 @@ returns c =
       cons_same (cast_back (at xs 0) (omega arith) (w 0 (omega arith)))
           (cons_same (code_of_number kind_number 1 4 c.try_from.ensures c.unwrap.ensures ∙ read_back (at xs 1) (omega arith) (w 1 (omega arith)))
           (cons_same (mark_back (at xs 2) (w 2 (omega arith)))
-          (cons_same (mark_back (at xs 3) (w 3 (omega arith)))
-          (cons_same (cast_back (at xs 4) (omega arith) (w 4 (omega arith)))
+          (cons_same (c.decommitted_at.ensures.mark ∙ read_back (at xs 3) (omega arith) (w 3 (omega arith)))
+          (cons_same (c.decommitted_at.ensures.kw ∙ read_back (at xs 4) (omega arith) (w 4 (omega arith)))
           (append_same c.resource_side.ensures c.resource_side-2.ensures ∙ sym c.split_at.ensures.by_index.0 ∙ take_rest xs (length resource_head))))))
           ∙ firsts_and_rest (length resource_head) xs (omega (arith, g.long)),
     )

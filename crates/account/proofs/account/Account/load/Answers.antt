@@ -2,7 +2,7 @@ use Rattle.std.proofs.Common.{map, filter, sym, ◌∙◌, arith}
 use Rattle.rows.specs.Rows.{plain_load}
 use Rattle.account.specs.Account.{load_in}
 use Rattle.account.specs.Own.{owns_load}
-use Rattle.account.proofs.Rows.{sum_turn, sum_all, sum_map, sum_plain}
+use Rattle.account.proofs.Rows.{sum_all, sum_map, sum_plain}
 use Rattle.account.proofs.account.Account.load.Goals as goal
 
 pub returns : goal.returns

@@ -1,8 +1,5 @@
-use Rattle.std.proofs.Common.{◌≡◌, ℕ, ◌+◌, ◌*◌, ◌<◌, ◌≤◌, cond, eqb, length, sym, ap, ◌∙◌, arith, length-set}
-use Rattle.rows.specs.Codes.{traded_sub}
-use Rattle.rows.specs.declared.trade.TradeRow.{TradeRow}
-use Rattle.account.proofs.Arrays.{set_every}
-use Rattle.account.proofs.Rows.{raw_moved, moved_is, nothing_either_way, sum_turn, sum_all, add_at}
+use Rattle.std.proofs.Common.{sym, ◌∙◌}
+use Rattle.account.proofs.Rows.{raw_moved, moved_is, sum_all}
 use Rattle.account.proofs.account.Account.traded.Goals as goal
 
 pub returns : goal.returns

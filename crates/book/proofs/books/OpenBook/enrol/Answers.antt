@@ -1,48 +1,42 @@
-use Rattle.std.proofs.Common.{map, ◌≡◌, ◌+◌, set, pos, nat_abs, refl, ap, ◌∙◌, subst, inl, inr, arith, w64, SFits, to_z, of_z, rules}
+use Rattle.std.proofs.Common.{map, ◌+◌, set, refl, ap, ◌∙◌, subst, inl, inr}
 use Rattle.std.proofs.lemmas.Result.{err_from_is_err_and}
-use Rattle.std.proofs.lemmas.Int.{to_z-of_z}
 use Rattle.rows.specs.Rows.{plain_qse}
 use Rattle.rows.specs.declared.fault.Fault.TheVariants.{AlreadyEnrolled}
-use Rattle.account.specs.View.{counted}
-use Rattle.entry.proofs.Casts.{cast_back}
 use Rattle.book.specs.Causes.{Absent, already}
 use Rattle.book.specs.Entries.{new_qse}
 use Rattle.book.specs.State.{open_book, state_of, with_book, with_counts, with_qses}
-use Rattle.book.proofs.Judging.{table_broken, table_sound, is_outside, not_outside, is_already, not_yet, append_refused, append_granted}
+use Rattle.book.proofs.Judging.{table_broken, table_sound, is_already, not_yet, append_refused, append_granted}
+use Rattle.book.proofs.Naming.{number_refused, number_read}
 use Rattle.book.proofs.books.OpenBook.enrol.Goals as goal
 
 pub returns-then-is_broken : goal.returns-then-is_broken
 returns-then-is_broken c = (inl (table_broken (open_book c.args.self.now) c.args.qses.now c.args.loads.now c.args.resources.now c.args.trades.now _ c.is_broken.ensures c.if-is_broken.true), refl)
 
-pub returns-then-not-is_within : goal.returns-then-not-is_within
-returns-then-not-is_within c =
-    let b = open_book c.args.self.now in
-    let s = state_of b c.args.qses.now c.args.loads.now c.args.resources.now c.args.trades.now in
-    let sound = table_sound b c.args.qses.now c.args.loads.now c.args.resources.now c.args.trades.now _ c.is_broken.ensures c.if-is_broken.false in
-    let fits : SFits w64 c.args.number = search rules in
-    (inr (sound, inl (is_outside 1 c.args.number (pos 1) (pos 65535) _ (simp to_z-of_z at c.is_within.ensures) c.if-not-is_within.true)), refl)
+pub returns-in_err-number : goal.returns-in_err-number
+returns-in_err-number c =
+    let p = err_from_is_err_and c.from_residual.result c.from_residual.ensures.1 in
+    let sound = table_sound (open_book c.args.self.now) c.args.qses.now c.args.loads.now c.args.resources.now c.args.trades.now _ c.is_broken.ensures c.if-is_broken.false in
+    rw (p.1, p.2) (inr (sound, inl (number_refused c.args.number c.ranges.number c.in_err-number.field-0.0 c.in_err-number.ensures)), refl)
 
 pub returns-then-is_enrolled : goal.returns-then-is_enrolled
 returns-then-is_enrolled c =
     let b = open_book c.args.self.now in
     let s = state_of b c.args.qses.now c.args.loads.now c.args.resources.now c.args.trades.now in
     let sound = table_sound b c.args.qses.now c.args.loads.now c.args.resources.now c.args.trades.now _ c.is_broken.ensures c.if-is_broken.false in
-    let fits : SFits w64 c.args.number = search rules in
-    let lawful = not_outside 1 c.args.number (pos 1) (pos 65535) _ (simp to_z-of_z at c.is_within.ensures) c.if-not-is_within.false in
-    let same : nat_abs (to_z w64 (of_z w64 c.args.number)) ≡ counted c.args.number =
-    ap counted (cast_back c.args.number (omega arith) ((simp to_z-of_z at c.is_within.ensures).0 c.if-not-is_within.false)) in
+    let read = number_read c.args.number c.ranges.number c.in_ok-number.number c.in_ok-number.ensures in
+    let lawful = read.0 in
+    let same = read.1 in
     (inr (sound, inr (lawful, inl (subst (λ n. already s n AlreadyEnrolled) same (is_already b c.args.qses.now c.args.loads.now c.args.resources.now c.args.trades.now _ _ c.is_enrolled.ensures c.if-is_enrolled.true)))), refl)
 
 pub returns-in_err-self : goal.returns-in_err-self
 returns-in_err-self c =
-    let p = err_from_is_err_and c.from_residual.result c.from_residual.ensures.1 in
+    let p = err_from_is_err_and c.from_residual-in_err-self.result c.from_residual-in_err-self.ensures.1 in
     let b = open_book c.args.self.now in
     let s = state_of b c.args.qses.now c.args.loads.now c.args.resources.now c.args.trades.now in
     let sound = table_sound b c.args.qses.now c.args.loads.now c.args.resources.now c.args.trades.now _ c.is_broken.ensures c.if-is_broken.false in
-    let fits : SFits w64 c.args.number = search rules in
-    let lawful = not_outside 1 c.args.number (pos 1) (pos 65535) _ (simp to_z-of_z at c.is_within.ensures) c.if-not-is_within.false in
-    let same : nat_abs (to_z w64 (of_z w64 c.args.number)) ≡ counted c.args.number =
-    ap counted (cast_back c.args.number (omega arith) ((simp to_z-of_z at c.is_within.ensures).0 c.if-not-is_within.false)) in
+    let read = number_read c.args.number c.ranges.number c.in_ok-number.number c.in_ok-number.ensures in
+    let lawful = read.0 in
+    let same = read.1 in
     let new = subst (λ n. Absent (already s n)) same (not_yet b c.args.qses.now c.args.loads.now c.args.resources.now c.args.trades.now _ _ c.is_enrolled.ensures c.if-is_enrolled.false) in
     let no = append_refused plain_qse b.qses 64 c.new_row.result c.args.qses.now c.append.new.table c.in_err-self.field-0.0 c.in_err-self.ensures in
     rw (p.1, p.2) (inr (sound, inr (lawful, inr (new, inl no.0))), ap (λ l. with_qses s l) no.1)
@@ -52,10 +46,9 @@ returns c =
     let b = open_book c.args.self.now in
     let s = state_of b c.args.qses.now c.args.loads.now c.args.resources.now c.args.trades.now in
     let sound = table_sound b c.args.qses.now c.args.loads.now c.args.resources.now c.args.trades.now _ c.is_broken.ensures c.if-is_broken.false in
-    let fits : SFits w64 c.args.number = search rules in
-    let lawful = not_outside 1 c.args.number (pos 1) (pos 65535) _ (simp to_z-of_z at c.is_within.ensures) c.if-not-is_within.false in
-    let same : nat_abs (to_z w64 (of_z w64 c.args.number)) ≡ counted c.args.number =
-    ap counted (cast_back c.args.number (omega arith) ((simp to_z-of_z at c.is_within.ensures).0 c.if-not-is_within.false)) in
+    let read = number_read c.args.number c.ranges.number c.in_ok-number.number c.in_ok-number.ensures in
+    let lawful = read.0 in
+    let same = read.1 in
     let new = subst (λ n. Absent (already s n)) same (not_yet b c.args.qses.now c.args.loads.now c.args.resources.now c.args.trades.now _ _ c.is_enrolled.ensures c.if-is_enrolled.false) in
     let yes = append_granted plain_qse b.qses 64 c.new_row.result c.args.qses.now c.append.new.table c.in_ok-self.field-0 c.in_ok-self.ensures in
     let row = c.new_row.ensures ∙ ap new_qse same in
