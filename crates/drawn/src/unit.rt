@@ -48,6 +48,7 @@ impl Draws {
         }
     }
 
+    // Nine, as of positions, by another draw: the statement of a common one would be handed both rules of the draws.
     #[tactic(auto, unfolding(crate::specs::Lists::amounts, crate::specs::Lists::amounts_state))]
     fn amounts(&mut self) -> Result<Vec<i64>, AllocError>
         ensures { IfOk result (λ l. l.items ≡ amounts 9 self.old.state) }

@@ -35,7 +35,8 @@ pub(crate) fn close_purse(purse: Vec<Option<Claim>>, book: AnyBook, desk: &Desk)
     }
 }
 
-// A `for` over the purse would let what is left of it go, so it is emptied by hand.
+// Here and below a `for` over the purse was tried: the borrow checker does not cover it, since what is left of the purse
+// would be let go. Both empty it by hand, and what each knows of the claims in it differs.
 #[tactic(auto, using(replay::proofs::Emptied::empty_front, replay::proofs::Emptied::empty_last))]
 fn end_empty(mut purse: Vec<Option<Claim>>)
     requires { claims_in purse.items ≡ 0 }

@@ -19,6 +19,7 @@ const MAX_QSES: usize = 64;
 
 const MAX_COST: u32 = 1_000_000_000;
 
+// Its tables grow as rows are entered; those of a journal have their lengths from the start.
 #[derive(Drop)]
 pub struct Desk {
     pub qses: Vec<QseRow>,

@@ -20,7 +20,7 @@ const QSES: u32 = 64;
 // Loads, resources and trades for each QSE.
 const ROWS_EACH: u32 = 8;
 
-// The tables that are lent to every call.
+// The tables that are lent to every call: always full, so that no lengths are asked for as a journal does.
 #[derive(Drop)]
 pub struct Lent {
     qses: Vec<QseRow>,

@@ -3,15 +3,6 @@ use Rattle.std.proofs.lemmas.List.{length-map}
 use Rattle.book.proofs.Enrolling.{none_before, number_at}
 use Rattle.book.proofs.judge.place_of.Goals as goal
 
-pub returns-then-q-number : goal.returns-then-q-number
-returns-then-q-number c =
-    let qs = c.args.qses.now in
-    record {
-      inside = omega (arith, length-map qs (λ q. q.number), c.loop-place-test.true);
-      there = number_at (λ q. q.number) qs c.loop-place.place c.index-qses-place.result c.loop-place-test.true ∙ ap (λ q. q.number) (sym c.index-qses-place.is) ∙ c.if-q-number.true;
-      first = c.loop-place.invariant;
-    }
-
 pub loop-place-preserved : goal.loop-place-preserved
 loop-place-preserved c =
     let qs = c.args.qses.now in

@@ -3,9 +3,6 @@ use Rattle.account.specs.View.{over}
 use Rattle.measure.proofs.LineTotals.{levels_same, at_most_more}
 use Rattle.measure.proofs.totals_of.served_by.Goals as goal
 
-pub of-requires : goal.of-requires
-of-requires c k = omega (arith, c.capabilities.ensures.small k)
-
 pub returns : goal.returns
 returns c =
     let l = c.args.line.now in

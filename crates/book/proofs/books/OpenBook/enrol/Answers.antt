@@ -5,18 +5,9 @@ use Rattle.rows.specs.declared.fault.Fault.TheVariants.{AlreadyEnrolled}
 use Rattle.book.specs.Causes.{Absent, already}
 use Rattle.book.specs.Entries.{new_qse}
 use Rattle.book.specs.State.{open_book, state_of, with_book, with_counts, with_qses}
-use Rattle.book.proofs.Judging.{table_broken, table_sound, is_already, not_yet, append_refused, append_granted}
-use Rattle.book.proofs.Naming.{number_refused, number_read}
+use Rattle.book.proofs.Judging.{table_sound, is_already, not_yet, append_refused, append_granted}
+use Rattle.book.proofs.Naming.{number_read}
 use Rattle.book.proofs.books.OpenBook.enrol.Goals as goal
-
-pub returns-then-is_broken : goal.returns-then-is_broken
-returns-then-is_broken c = (inl (table_broken (open_book c.args.self.now) c.args.qses.now c.args.loads.now c.args.resources.now c.args.trades.now _ c.is_broken.ensures c.if-is_broken.true), refl)
-
-pub returns-in_err-number : goal.returns-in_err-number
-returns-in_err-number c =
-    let p = err_from_is_err_and c.from_residual.result c.from_residual.ensures.1 in
-    let sound = table_sound (open_book c.args.self.now) c.args.qses.now c.args.loads.now c.args.resources.now c.args.trades.now _ c.is_broken.ensures c.if-is_broken.false in
-    rw (p.1, p.2) (inr (sound, inl (number_refused c.args.number c.ranges.number c.in_err-number.field-0.0 c.in_err-number.ensures)), refl)
 
 pub returns-then-is_enrolled : goal.returns-then-is_enrolled
 returns-then-is_enrolled c =

@@ -1,5 +1,4 @@
-use Rattle.std.proofs.Common.{◌≡◌, ◌-◌, ◌++◌, map, get_or, take, drop, refl, ap, ◌∙◌, subst, inl, inr, arith}
-use Rattle.std.proofs.lemmas.Result.{err_from_is_err_and}
+use Rattle.std.proofs.Common.{◌≡◌, ◌++◌, map, take, drop, refl, ap, ◌∙◌, subst, inl, inr, arith}
 use Rattle.rows.specs.Rows.{plain_figures}
 use Rattle.rows.specs.declared.fault.Fault.TheVariants.{NotEnrolled}
 use Rattle.entry.specs.Numbers.{figures_numbers}
@@ -9,21 +8,9 @@ use Rattle.account.specs.View.{counted}
 use Rattle.book.specs.State.{open_book, state_of, qse_rows, with_qses}
 use Rattle.book.specs.Causes.{Absent, Earliest, unenrolled}
 use Rattle.book.specs.Entries.{refigured}
-use Rattle.book.proofs.Judging.{table_broken, table_sound, no_row, some_row, nothing_refused}
-use Rattle.book.proofs.Enrolling.{place_taken}
+use Rattle.book.proofs.Judging.{table_sound, no_row, some_row, nothing_refused}
 use Rattle.book.proofs.Figuring.{figured_rows}
 use Rattle.book.proofs.books.OpenBook.figures.Goals as goal
-
-pub returns-then-is_broken : goal.returns-then-is_broken
-returns-then-is_broken c = (inl (table_broken (open_book c.args.self.now) c.args.qses.now c.args.loads.now c.args.resources.now c.args.trades.now _ c.is_broken.ensures c.if-is_broken.true), refl)
-
-pub returns-in_err-number : goal.returns-in_err-number
-returns-in_err-number c =
-    let p = err_from_is_err_and c.from_residual.result c.from_residual.ensures.1 in
-    let b = open_book c.args.self.now in
-    let s = state_of b c.args.qses.now c.args.loads.now c.args.resources.now c.args.trades.now in
-    let sound = table_sound b c.args.qses.now c.args.loads.now c.args.resources.now c.args.trades.now _ c.is_broken.ensures c.if-is_broken.false in
-    rw (p.1, p.2) (inr (sound, inl c.in_err-number.ensures), refl)
 
 pub returns-in_default : goal.returns-in_default
 returns-in_default c =
@@ -34,15 +21,6 @@ returns-in_default c =
     let q = ap (λ l. counted (at l 0)) entered.1 in
     let none = no_row b c.args.qses.now c.args.loads.now c.args.resources.now c.args.trades.now _ c.in_default.ensures in
     (inr (sound, inr (nothing_refused Figures _ entered.0, inl (subst (λ n. unenrolled s n NotEnrolled) q none))), refl)
-
-pub offset_bounds-qses-place : goal.offset_bounds-qses-place
-offset_bounds-qses-place c = record { fits = omega (arith, (place_taken (λ x. x.number) c.args.qses.now (c.args.self.now.ledger.counts.qses - 0) c.in-Some.place c.in-Some.ensures.inside).0, c.args.self.now.ledger.counts.few.0) }
-
-pub bounds-qses-place : goal.bounds-qses-place
-bounds-qses-place c = (place_taken (λ x. x.number) c.args.qses.now (c.args.self.now.ledger.counts.qses - 0) c.in-Some.place c.in-Some.ensures.inside).1
-
-pub invariant_of-qses : goal.invariant_of-qses
-invariant_of-qses c d = ((place_taken (λ x. x.number) c.args.qses.now (c.args.self.now.ledger.counts.qses - 0) c.in-Some.place c.in-Some.ensures.inside).1, ((get_or c.args.qses.now c.in-Some.place d).limits, tt))
 
 pub returns : goal.returns
 returns c =

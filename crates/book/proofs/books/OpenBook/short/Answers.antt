@@ -1,21 +1,10 @@
-use Rattle.std.proofs.Common.{◌-◌, inl, inr, arith}
-use Rattle.std.proofs.lemmas.Result.{err_from_is_err_and}
+use Rattle.std.proofs.Common.{inl, inr}
 use Rattle.account.specs.View.{counted}
 use Rattle.book.specs.State.{open_book}
-use Rattle.book.proofs.Judging.{table_broken, table_sound}
-use Rattle.book.proofs.Naming.{number_refused, number_read, named_nowhere, named_somewhere}
-use Rattle.book.proofs.Enrolling.{place_taken}
+use Rattle.book.proofs.Judging.{table_sound}
+use Rattle.book.proofs.Naming.{number_read, named_nowhere, named_somewhere}
 use Rattle.book.proofs.Owning.{short_at_place}
 use Rattle.book.proofs.books.OpenBook.short.Goals as goal
-
-pub returns-then-is_broken : goal.returns-then-is_broken
-returns-then-is_broken g c = inl (table_broken (open_book c.args.self.now) c.args.qses.now c.args.loads.now c.args.resources.now c.args.trades.now _ c.is_broken.ensures c.if-is_broken.true)
-
-pub returns-in_err-number : goal.returns-in_err-number
-returns-in_err-number g c =
-    let p = err_from_is_err_and c.from_residual.result c.from_residual.ensures.1 in
-    let sound = table_sound (open_book c.args.self.now) c.args.qses.now c.args.loads.now c.args.resources.now c.args.trades.now _ c.is_broken.ensures c.if-is_broken.false in
-    rw (p.1, p.2) (inr (sound, inl (number_refused c.args.qse c.ranges.qse c.in_err-number.field-0.0 c.in_err-number.ensures)))
 
 pub returns-in_default : goal.returns-in_default
 returns-in_default g c =
@@ -25,12 +14,6 @@ returns-in_default g c =
     let read = c.in_ok-number.ensures in
     let none = named_nowhere q c.ranges.qse c.in_ok-number.number read b c.args.qses.now c.args.loads.now c.args.resources.now c.args.trades.now c.in_default.ensures in
     inr (sound, inr ((number_read q c.ranges.qse c.in_ok-number.number read).0, inl none))
-
-pub offset_bounds-qses-place : goal.offset_bounds-qses-place
-offset_bounds-qses-place g c = record { fits = omega (arith, (place_taken (λ x. x.number) c.args.qses.now (c.args.self.now.ledger.counts.qses - 0) c.in-Some.place c.in-Some.ensures.inside).0, c.args.self.now.ledger.counts.few.0) }
-
-pub bounds-qses-place : goal.bounds-qses-place
-bounds-qses-place g c = (place_taken (λ x. x.number) c.args.qses.now (c.args.self.now.ledger.counts.qses - 0) c.in-Some.place c.in-Some.ensures.inside).1
 
 pub returns : goal.returns
 returns g c =

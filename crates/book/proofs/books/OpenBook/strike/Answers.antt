@@ -1,11 +1,8 @@
-use Rattle.std.proofs.Common.{refl, inl}
+use Rattle.std.proofs.Common.{refl}
 use Rattle.book.specs.State.{open_book}
-use Rattle.book.proofs.Judging.{table_broken, table_sound}
+use Rattle.book.proofs.Judging.{table_sound}
 use Rattle.book.proofs.Striking.{strike_granted, strike_refused}
 use Rattle.book.proofs.books.OpenBook.strike.Goals as goal
-
-pub returns-then-is_broken : goal.returns-then-is_broken
-returns-then-is_broken g c = (inl (table_broken (open_book c.args.self) c.args.qses.now c.args.loads.now c.args.resources.now c.args.trades.now _ c.is_broken.ensures c.if-is_broken.true), refl, refl)
 
 pub returns-in-Err : goal.returns-in-Err
 returns-in-Err g c =

@@ -8,17 +8,8 @@ use Rattle.entry.specs.declared.form.Form.TheVariants.{Trade}
 use Rattle.account.specs.View.{counted}
 use Rattle.book.specs.Causes.{Absent, unpartied}
 use Rattle.book.specs.State.{open_book, state_of, with_book, with_counts, with_trades}
-use Rattle.book.proofs.Judging.{table_broken, table_sound, not_both, both_among, nothing_refused, two_parties, append_refused, append_granted}
+use Rattle.book.proofs.Judging.{table_sound, not_both, both_among, nothing_refused, two_parties, append_refused, append_granted}
 use Rattle.book.proofs.books.OpenBook.trade.Goals as goal
-
-pub returns-then-is_broken : goal.returns-then-is_broken
-returns-then-is_broken c = (inl (table_broken (open_book c.args.self.now) c.args.qses.now c.args.loads.now c.args.resources.now c.args.trades.now _ c.is_broken.ensures c.if-is_broken.true), refl)
-
-pub returns-in_err-row : goal.returns-in_err-row
-returns-in_err-row c =
-    let p = err_from_is_err_and c.from_residual.result c.from_residual.ensures.1 in
-    let sound = table_sound (open_book c.args.self.now) c.args.qses.now c.args.loads.now c.args.resources.now c.args.trades.now _ c.is_broken.ensures c.if-is_broken.false in
-    rw (p.1, p.2) (inr (sound, inl c.in_err-row.ensures.entered), refl)
 
 pub returns-then-not-are_enrolled : goal.returns-then-not-are_enrolled
 returns-then-not-are_enrolled c =

@@ -3,13 +3,10 @@ use Rattle.std.proofs.lemmas.Bool.{false≢true}
 use Rattle.rows.specs.Rows.{plain_trade}
 use Rattle.book.specs.State.{open_book, state_of, with_trades}
 use Rattle.book.specs.Causes.{Standing}
-use Rattle.book.proofs.Judging.{table_broken, table_sound, trades_long}
+use Rattle.book.proofs.Judging.{table_sound, trades_long}
 use Rattle.book.proofs.Voiding.{plain_at, void_set}
 use Rattle.book.proofs.books.OpenBook.void.Goals.{then-place-self-via-then-place-self, then-place-self-via-else-place-self+then-not-trades-place}
 use Rattle.book.proofs.books.OpenBook.void.Goals as goal
-
-pub returns-then-is_broken : goal.returns-then-is_broken
-returns-then-is_broken c = (inl (table_broken (open_book c.args.self.now) c.args.qses.now c.args.loads.now c.args.resources.now c.args.trades.now _ c.is_broken.ensures c.if-is_broken.true), refl)
 
 pub returns-then-place-self : goal.returns-then-place-self
 returns-then-place-self c =

@@ -2,12 +2,9 @@ use Rattle.std.proofs.Common.{◌-◌, ◌≤◌, sym, refl, ◌∙◌, inl, inr
 use Rattle.std.proofs.lemmas.Bool.{false≢true}
 use Rattle.rows.specs.Rows.{plain_qse, plain_load}
 use Rattle.book.specs.State.{state_of, struck_book, with_claims}
-use Rattle.book.proofs.Judging.{table_broken, table_sound}
+use Rattle.book.proofs.Judging.{table_sound}
 use Rattle.book.proofs.Charging.{qses_long, loads_long, is_unfit, not_unfit, qses_short, qses_room, loads_room, no_load_asked, not_no_load, no_rest, no_pot, plain_qses_divided, plain_loads_divided, plain_later}
 use Rattle.book.proofs.books.StruckBook.charge.Goals as goal
-
-pub returns-then-is_broken : goal.returns-then-is_broken
-returns-then-is_broken c = (inl (table_broken (struck_book c.args.self.now) c.args.qses.now c.args.loads.now c.args.resources.now c.args.trades.now _ c.is_broken.ensures c.if-is_broken.true), refl {a = c.args.claim}, refl)
 
 pub returns-then-not-is_fit : goal.returns-then-not-is_fit
 returns-then-not-is_fit c =

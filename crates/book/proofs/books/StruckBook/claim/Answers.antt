@@ -2,25 +2,8 @@ use Rattle.std.proofs.Common.{pos, refl, inl, inr, arith, w64, SFits, rules}
 use Rattle.std.proofs.lemmas.Int.{to_z-of_z}
 use Rattle.entry.proofs.Casts.{cast_back}
 use Rattle.book.specs.State.{struck_book}
-use Rattle.book.proofs.Judging.{table_broken, table_sound, is_outside, not_outside}
+use Rattle.book.proofs.Judging.{table_sound, not_outside}
 use Rattle.book.proofs.books.StruckBook.claim.Goals as goal
-
-pub returns-then-is_broken : goal.returns-then-is_broken
-returns-then-is_broken c = (inl (table_broken (struck_book c.args.self.now) c.args.qses.now c.args.loads.now c.args.resources.now c.args.trades.now _ c.is_broken.ensures c.if-is_broken.true), refl)
-
-pub returns-then-not-is_within : goal.returns-then-not-is_within
-returns-then-not-is_within c =
-    let sound = table_sound (struck_book c.args.self.now) c.args.qses.now c.args.loads.now c.args.resources.now c.args.trades.now _ c.is_broken.ensures c.if-is_broken.false in
-    let fc : SFits w64 c.args.cents = search rules in
-    (inr (sound, inl (is_outside 1 c.args.cents (pos 1) (pos 1000000000) _ (simp to_z-of_z at c.is_within.ensures) c.if-not-is_within.true)), refl)
-
-pub returns-then-not-is_within-2 : goal.returns-then-not-is_within-2
-returns-then-not-is_within-2 c =
-    let sound = table_sound (struck_book c.args.self.now) c.args.qses.now c.args.loads.now c.args.resources.now c.args.trades.now _ c.is_broken.ensures c.if-is_broken.false in
-    let fc : SFits w64 c.args.cents = search rules in
-    let fr : SFits w64 c.args.rate = search rules in
-    let first = not_outside 1 c.args.cents (pos 1) (pos 1000000000) _ (simp to_z-of_z at c.is_within.ensures) c.if-not-is_within.false in
-    (inr (sound, inr (first, inl (is_outside 2 c.args.rate (pos 0) (pos 1000000) _ (simp to_z-of_z at c.is_within-2.ensures) c.if-not-is_within-2.true))), refl)
 
 pub returns-then-self-ge1000 : goal.returns-then-self-ge1000
 returns-then-self-ge1000 c =

@@ -1,11 +1,7 @@
 use Rattle.std.proofs.Common.{sym, ◌∙◌}
 use Rattle.std.proofs.lemmas.Bool.{false≢true}
-use Rattle.book.proofs.Charging.{fit_from_rows, short_from_fit, low_qses_from_fit, low_loads_from_fit}
+use Rattle.book.proofs.Charging.{fit_from_rows, low_qses_from_fit, low_loads_from_fit}
 use Rattle.book.proofs.books.charges.is_fit.Goals as goal
-
-pub returns-then-sum_of_weights-from : goal.returns-then-sum_of_weights-from
-returns-then-sum_of_weights-from c =
-    ((λ e. absurd (false≢true e)), λ fit. absurd (c.if-sum_of_weights-from.true (c.sum_of_weights.ensures.value ∙ short_from_fit _ c.args.qses.now c.args.loads.now fit ∙ sym c.from.ensures)))
 
 pub returns-then-all_low : goal.returns-then-all_low
 returns-then-all_low c =

@@ -6,9 +6,6 @@ use Rattle.account.proofs.Rows.{sum_turn, sum_all}
 use Rattle.measure.proofs.LineTotals.{levels_same, under_more, lines_sum}
 use Rattle.measure.proofs.totals.Totals.of.Goals as goal
 
-pub with_row-totals-requires : goal.with_row-totals-requires
-with_row-totals-requires c = under_more (30000000 * c.loop-row.row-index) 20000000000 (omega (arith, c.loop-row-test.true, c.args.a.now.few.1)) c.loop-row.invariant.3
-
 pub loop-row-preserved : goal.loop-row-preserved
 loop-row-preserved c =
     let a = c.args.a.now in

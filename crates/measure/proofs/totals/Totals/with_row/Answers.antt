@@ -1,22 +1,8 @@
-use Rattle.std.proofs.Common.{◌+◌, sym, ◌∙◌, arith}
+use Rattle.std.proofs.Common.{sym, ◌∙◌, arith}
 use Rattle.measure.specs.Grouped.{supply}
 use Rattle.measure.specs.Levels.{served}
-use Rattle.measure.proofs.LineTotals.{levels_same, served_is, own_part_is, other_part, at_most_more}
+use Rattle.measure.proofs.LineTotals.{levels_same, served_is, own_part_is}
 use Rattle.measure.proofs.totals.Totals.with_row.Goals as goal
-
-pub returns-then-not-owns : goal.returns-then-not-owns
-returns-then-not-owns c =
-    let a = c.args.a.now in
-    let r = c.args.row.now in
-    let other = sym c.owns.ensures ∙ c.if-not-owns.true in
-    record {
-      value = record {
-        supply = omega (arith, other_part supply a r other);
-        offline = omega (arith, other_part (λ l. l.offline) a r other);
-        served = λ f. levels_same f _ (λ ks all. omega (arith, other_part (served ks) a r other));
-      };
-      small = λ m under. record { supply = omega (arith, under.supply); offline = omega (arith, under.offline); served = at_most_more m (m + 30000000) (omega arith) under.served };
-    }
 
 pub returns : goal.returns
 returns c =
