@@ -47,18 +47,6 @@ sum_turn f xs i d h read was is = omega (arith, sum_by_more f xs i d h, was, is,
 pub sum_all : {X : Type 0} (f : X → ℕ) (xs : List X) (i : ℕ) {sum : ℕ} → length xs ≤ i → sum ≡ sum_by f (take i xs) → sum ≡ sum_by f xs
 sum_all f xs i h was = was ∙ ap (sum_by f) (take_all _ _ h)
 
--- x added at place j
-pub add_at : (xs : List ℕ) (j x : ℕ) → j < length xs → (s : ℕ) → get_or (set xs j (get_or xs j 0 + x)) s 0 ≡ get_or xs s 0 + cond (eqb j s) x 0
-add_at xs j x lt s =
-    ⊎_elim
-    (λ (e : j ≡ s).
-    ap (λ n. get_or (set xs j (get_or xs j 0 + x)) n 0) (sym e) ∙ get_or-set_same xs j (get_or xs j 0 + x) 0 lt
-    ∙ ap (λ n. get_or xs n 0 + x) e ∙ ap (λ b. get_or xs s 0 + cond b x 0) (sym (eq-eqb j s e)))
-    (λ (ne : j ≡ s → ⊥).
-    let there : (s ≡ j → ⊥) = λ e. ne (sym e) in
-    get_or-set_other xs j s (get_or xs j 0 + x) 0 there ∙ omega (arith, ap (λ b. cond b x 0) (ne_eqb j s ne)))
-    (cases_eq j s)
-
 -- what a trade in the table moves for q as a party on a side in sub-type s
 abbrev pub raw_moved : Party → Side → ℕ → ℕ → TradeRow → ℕ
 raw_moved party side q s t = cond (eqb (traded_sub t.traded) s) (cond (t.counts && (on_side side t.sides && eqb (party_of party (plain_trade t)) q)) t.kw 0) 0

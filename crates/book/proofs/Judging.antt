@@ -29,8 +29,6 @@ module _ (b : Book) (qs : List QseRow) (ls : List LoadRow) (rs : List ResourceRo
       ∙ ap (λ n. BrokenBy b.qses b.loads b.resources b.trades (length s.qses) (length s.loads) (length s.resources) n) (sym (length-map ts plain_trade))
 
   module _ (r : Bool) (test : Decides r (BrokenBy b.qses b.loads b.resources b.trades (length qs) (length ls) (length rs) (length ts))) where
-    pub table_broken : r ≡ true → broken s BrokenTable
-    table_broken e = (refl, subst (λ T. T) lengths (test.0 e))
 
     pub table_sound : r ≡ false → Absent (broken s)
     table_sound e f c = false≢true (sym e ∙ test.1 (subst (λ T. T) (sym lengths) c.1))
@@ -97,8 +95,6 @@ pub two_parties : (seller buyer : ℕ) → (buyer ≡ seller → ⊥) → Absent
 two_parties seller buyer ne e c = ne c.1
 
 module _ (p : ℕ) (x low high : ℤ) (r : Bool) (test : Decides r (Within x low high)) where
-  pub is_outside : r ≡ false → outside p x low high (OutOfLimits p)
-  is_outside e = (refl, λ w. false≢true (sym e ∙ test.1 w))
 
   pub not_outside : r ≡ true → Absent (outside p x low high)
   not_outside e f c = c.1 (test.0 e)

@@ -16,8 +16,6 @@ use Rattle.book.specs.Reading.{NumberOf, SideOf}
 use Rattle.book.proofs.Judging.{no_row, some_row}
 
 module _ (q : ℤ) (fits : SFits w64 q) where
-  pub number_refused : (e : Fault) → NumberOf (to_z w64 (of_z w64 q)) (Err e) → outside 1 q (pos 1) (pos 65535) e
-  number_refused e = subst (λ z. NumberOf z (Err e)) (to_z-of_z w64 q fits)
 
   module _ (n : ℕ) (read : NumberOf (to_z w64 (of_z w64 q)) (Ok n)) where
     pub number_read : NumberOf q (Ok n)
@@ -34,8 +32,6 @@ module _ (q : ℤ) (fits : SFits w64 q) where
       named_somewhere k e = subst (λ m. Absent (unenrolled s m)) number_read.1 (some_row b qs ls rs ts n k e)
 
 module _ (z : ℤ) (fits : SFits w64 z) where
-  pub side_refused : (e : Fault) → SideOf (to_z w64 (of_z w64 z)) (Err e) → outside 2 z (pos 1) (pos 2) e
-  side_refused e = subst (λ x. SideOf x (Err e)) (to_z-of_z w64 z fits)
 
   pub side_read : (side : Side) → SideOf (to_z w64 (of_z w64 z)) (Ok side) → SideOf z (Ok side)
   side_read side = subst (λ x. SideOf x (Ok side)) (to_z-of_z w64 z fits)

@@ -24,9 +24,6 @@ mark_back z w = elim (either_mark z w) [ inl e ↦ rw e refl | inr e ↦ rw e re
 pub cast_16 : (z : ℤ) {a : ℕ} → Within z (pos a) (pos 65535) → T (non_neg (to_z w64 (of_z w64 z))) × Fits w16 (nat_abs (to_z w64 (of_z w64 z)))
 cast_16 z w = (omega (arith, ints), record { fits = omega (arith, ints) })
 
-pub cast_32 : (z : ℤ) {a b : ℕ} → b < 2 ^ 32 → Within z (pos a) (pos b) → T (non_neg (to_z w64 (of_z w64 z))) × Fits w32 (nat_abs (to_z w64 (of_z w64 z)))
-cast_32 z l w = (omega (arith, ints), record { fits = omega (arith, ints) })
-
 pub cast_least : (z : ℤ) {a b : ℕ} → b < 2 ^ 63 → Within z (pos a) (pos b) → a ≤ nat_abs (to_z w64 (of_z w64 z))
 cast_least z l w = omega (arith, ints)
 

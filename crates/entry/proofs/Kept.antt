@@ -15,9 +15,3 @@ keeps_when_within f xs k {r = r} ep ex ev ek w d =
     let w' = simp (ep, ex) at w in
     let d' = simp (ep, ex, ev, ek) at d in
     Decides-like r (λ q. record { limited = w'; ruled = q }) (λ q. q.ruled) d'
-
--- where place i fails and those before it are kept, it is the first
-pub first_bad : (f : Form) (xs : List ℤ) (i : ℕ) (r : Bool) → length xs ≡ size f → i < size f → Decides r (Keeps f xs i) → r ≡ false → ((k : ℕ) → k < i → Keeps f xs k) → FirstBad f xs (i + 1)
-first_bad f xs i r long h d out below =
-    let e : (i + 1) - 1 ≡ i = omega arith in
-    record { long = long; counted = (omega arith, omega arith); bad = λ p. false≢true (sym out ∙ d.1 (subst (Keeps f xs) e p)); before = λ k l. below k (omega arith) }

@@ -1,4 +1,3 @@
-pub mod TwoSided
 pub mod Kept
 pub mod Parts
 pub mod Casts

@@ -16,9 +16,6 @@ use Rattle.entry.specs.Numbers.{mark, side_numbers}
 zero_unset : (x : ℤ) → x ≡ pos 0 → eqb (of_z w64 x) 1 ≡ false
 zero_unset x e = rw e refl
 
-one_set : (x : ℤ) → x ≡ pos 1 → eqb (of_z w64 x) 1 ≡ true
-one_set x e = rw e refl
-
 mark_zero : (kind : Kind) (x y : ℤ) → y ≡ pos (kind_number kind) → Marked x y → is_unmarked kind ≡ true → x ≡ pos 0
 mark_zero Generation x y e m u = absurd (clash u)
 mark_zero Renewable x y e m u = elim m [ inl z ↦ z | inr n ↦ absurd (n.0 e) ]

@@ -48,9 +48,6 @@ served_is l m is ks all = omega (arith, is.room, over_same ks (λ k. get_or l.ca
 pub own_part_is : (g : Line → ℕ) (a : Account) (r : ResourceRow) → owns_resource a.qse (plain_resource r) ≡ true → own_part g a r ≡ g (line_of a.side (plain_resource r))
 own_part_is g a r own = ap (λ b. cond b (g (line_of a.side (plain_resource r))) 0) own
 
-pub other_part : (g : Line → ℕ) (a : Account) (r : ResourceRow) → owns_resource a.qse (plain_resource r) ≡ false → own_part g a r ≡ 0
-other_part g a r own = ap (λ b. cond b (g (line_of a.side (plain_resource r))) 0) own
-
 -- the sum over the account's lines is a sum over all rows
 pub lines_sum : (g : Line → ℕ) (a : Account) → sum_by (own_part g a) a.resources.now ≡ sum_by g (account_view a).lines
 lines_sum g a =

@@ -35,13 +35,3 @@ module _ {X : Type 0} (f : X → View → ℕ) (xs : List X) (j : ℕ) (d d' : D
 
     pub short_named : (q : ℤ) → Looks (Shorts (f x) q) Shortfall d d' a → OnOpen (map f xs) (Short j q) d d' a
     short_named q h = inl (named, subst (λ m. Looks (Shorts m q) Shortfall d d' a) (sym measure_read) h)
-
-    pub strike_named : StrikesBook (f x) d d' a → OnOpen (map f xs) (Strike j) d d' a
-    strike_named h = inl (named, subst (λ m. StrikesBook m d d' a) (sym measure_read) h)
-
-  module _ (past : length xs ≤ j) where
-    pub short_unnamed : (q : ℤ) → Barred d d' a → OnOpen (map f xs) (Short j q) d d' a
-    short_unnamed q h = inr (omega (arith, length-map xs f), h)
-
-    pub strike_unnamed : Barred d d' a → OnOpen (map f xs) (Strike j) d d' a
-    strike_unnamed h = inr (omega (arith, length-map xs f), h)

@@ -11,16 +11,6 @@ held_within p k c e = elim (cases_lt k (length p)) [
   | inr le ↦ (let past = get_or_past p k None le in let z : ◌≡◌ {A = ℕ} 0 1 = cc in absurd (omega arith))
 ]
 
--- the place of a claim that was taken is free
-pub taken_free : (p p' : List (Option Slip)) (k : ℕ) (c : Slip) → Some c ≡ get_or p k None → p' ≡ set p k None → Free p' k
-taken_free p p' k c e t =
-    let lt = held_within p k c e in
-    (omega (arith, ap length t, length-set p k None), ap (λ l. get_or l k None) t ∙ get_or-set_same p k None None lt)
-
--- taking from a free place changes nothing
-pub none_taken : (p p' : List (Option Slip)) (k : ℕ) → None ≡ get_or p k None → p' ≡ set p k None → p' ≡ p
-none_taken p p' k e t = t ∙ ap (set p k) e ∙ set-get_or p k None
-
 -- a claim put back to its place
 pub put_back : (p p₁ p₂ : List (Option Slip)) (k : ℕ) (c back : Slip) → Some c ≡ get_or p k None → p₁ ≡ set p k None → p₂ ≡ set p₁ k (Some back) → back ≡ c → p₂ ≡ p
 put_back p p₁ p₂ k c back e t w same =
