@@ -29,7 +29,6 @@ module _ (b : Book) (qs : List QseRow) (ls : List LoadRow) (rs : List ResourceRo
       ∙ ap (λ n. BrokenBy b.qses b.loads b.resources b.trades (length s.qses) (length s.loads) (length s.resources) n) (sym (length-map ts plain_trade))
 
   module _ (r : Bool) (test : Decides r (BrokenBy b.qses b.loads b.resources b.trades (length qs) (length ls) (length rs) (length ts))) where
-
     pub table_sound : r ≡ false → Absent (broken s)
     table_sound e f c = false≢true (sym e ∙ test.1 (subst (λ T. T) (sym lengths) c.1))
 
@@ -95,7 +94,6 @@ pub two_parties : (seller buyer : ℕ) → (buyer ≡ seller → ⊥) → Absent
 two_parties seller buyer ne e c = ne c.1
 
 module _ (p : ℕ) (x low high : ℤ) (r : Bool) (test : Decides r (Within x low high)) where
-
   pub not_outside : r ≡ true → Absent (outside p x low high)
   not_outside e f c = c.1 (test.0 e)
 

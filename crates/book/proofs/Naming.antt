@@ -16,7 +16,6 @@ use Rattle.book.specs.Reading.{NumberOf, SideOf}
 use Rattle.book.proofs.Judging.{no_row, some_row}
 
 module _ (q : ℤ) (fits : SFits w64 q) where
-
   module _ (n : ℕ) (read : NumberOf (to_z w64 (of_z w64 q)) (Ok n)) where
     pub number_read : NumberOf q (Ok n)
     number_read = subst (λ z. NumberOf z (Ok n)) (to_z-of_z w64 q fits) read
@@ -32,6 +31,5 @@ module _ (q : ℤ) (fits : SFits w64 q) where
       named_somewhere k e = subst (λ m. Absent (unenrolled s m)) number_read.1 (some_row b qs ls rs ts n k e)
 
 module _ (z : ℤ) (fits : SFits w64 z) where
-
   pub side_read : (side : Side) → SideOf (to_z w64 (of_z w64 z)) (Ok side) → SideOf z (Ok side)
   side_read side = subst (λ x. SideOf x (Ok side)) (to_z-of_z w64 z fits)
