@@ -81,3 +81,10 @@ drawn_unit s qse =
     let kind = drawn_kind (next_state s) in
     let side = drawn_unit_side (next_state s) kind in
     qse ∷ pos (kind_number kind) ∷ pos 0 ∷ pos 0 ∷ pos 0 ∷ (side ++ side)
+
+-- the state after a side of a unit, and after a unit
+abbrev pub unit_side_state : Kind → ℕ → ℕ
+unit_side_state kind s = amounts_state 9 (lsl_state kind (next_state s))
+
+abbrev pub unit_state : ℕ → ℕ
+unit_state s = unit_side_state (drawn_kind (next_state s)) (next_state s)

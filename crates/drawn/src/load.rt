@@ -1,5 +1,6 @@
 // A load.
 ghost use Rattle.std.specs.Prelude.{◌≡◌, IfOk};
+ghost use Rattle.drawn.specs.Draws.{next_state};
 ghost use Rattle.drawn.specs.Lists.{drawn_load};
 
 use super::draws::Draws;
@@ -10,7 +11,8 @@ const MOST_KWH: u32 = 500;
 impl Draws {
     // A load of the QSE at the settlement point 1.
     pub fn load(&mut self, qse: i64) -> Result<Vec<i64>, AllocError>
-        ensures { IfOk result (λ l. l.items ≡ drawn_load self.old.state qse) }
+        ensures list { IfOk result (λ l. l.items ≡ drawn_load self.old.state qse) }
+        ensures state { self.new.state ≡ next_state self.old.state }
     {
         let kwh = i64::from(self.up_to(MOST_KWH));
         Ok(vec![in self.heap; qse, 1, kwh]?)

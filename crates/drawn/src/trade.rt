@@ -43,7 +43,8 @@ impl Draws {
 
     // A trade between the QSEs: of capacity, energy or a position, on one side or both.
     pub fn trade(&mut self, seller: i64, buyer: i64) -> Result<Vec<i64>, AllocError>
-        ensures { IfOk result (λ l. l.items ≡ drawn_trade self.old.state seller buyer) }
+        ensures list { IfOk result (λ l. l.items ≡ drawn_trade self.old.state seller buyer) }
+        ensures state { self.new.state ≡ next_state (next_state (next_state (next_state self.old.state))) }
     {
         let traded = self.traded();
         let sides = self.sides();

@@ -1,7 +1,7 @@
 // A unit.
 ghost use Rattle.std.specs.Prelude.{◌≡◌, IfOk, pos};
 ghost use Rattle.drawn.specs.Draws.{next_state};
-ghost use Rattle.drawn.specs.Lists.{amount_of, amount_state, amounts, drawn_kind, drawn_unit, drawn_unit_side, lsl_of, lsl_state};
+ghost use Rattle.drawn.specs.Lists.{amount_of, amount_state, amounts, amounts_state, drawn_kind, drawn_unit, drawn_unit_side, lsl_of, lsl_state, unit_side_state, unit_state};
 
 use super::codes::SUB_TYPES;
 use super::draws::Draws;
@@ -51,7 +51,8 @@ impl Draws {
     // Nine, as of positions, by another draw: the statement of a common one would be handed both rules of the draws.
     #[tactic(auto, unfolding(crate::specs::Lists::amounts, crate::specs::Lists::amounts_state))]
     fn amounts(&mut self) -> Result<Vec<i64>, AllocError>
-        ensures { IfOk result (λ l. l.items ≡ amounts 9 self.old.state) }
+        ensures list { IfOk result (λ l. l.items ≡ amounts 9 self.old.state) }
+        ensures state { IfOk result (λ _. self.new.state ≡ amounts_state 9 self.old.state) }
     {
         let mut amounts = Vec::new(self.heap);
         for _place in 0..SUB_TYPES {
@@ -61,7 +62,8 @@ impl Draws {
     }
 
     fn unit_side(&mut self, kind: Kind) -> Result<Vec<i64>, AllocError>
-        ensures { IfOk result (λ l. l.items ≡ drawn_unit_side self.old.state kind) }
+        ensures list { IfOk result (λ l. l.items ≡ drawn_unit_side self.old.state kind) }
+        ensures state { IfOk result (λ _. self.new.state ≡ unit_side_state kind self.old.state) }
     {
         let hsl = self.up_to(600) + 200;
         let lsl = self.lsl(kind, hsl);
@@ -75,7 +77,8 @@ impl Draws {
 
     // A unit of the QSE that is ON, the same on both sides.
     pub fn unit(&mut self, qse: i64) -> Result<Vec<i64>, AllocError>
-        ensures { IfOk result (λ l. l.items ≡ drawn_unit self.old.state qse) }
+        ensures list { IfOk result (λ l. l.items ≡ drawn_unit self.old.state qse) }
+        ensures state { IfOk result (λ _. self.new.state ≡ unit_state self.old.state) }
     {
         let kind = self.kind();
         let mut list = vec![in self.heap; qse, kind as i64, 0, 0, 0]?;
