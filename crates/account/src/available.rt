@@ -14,6 +14,7 @@ fn ready(status: Status) -> bool
     matches!(status, Status::On | Status::OffQs)
 }
 
+// That what is available is a power figure stands in the clauses: a type for it would be opened again in each sum.
 fn giveable(kind: Kind, plan: &ResourceSide) -> u32
     ensures value { result ≡ giveableBy kind (plain_side plan.now) }
     ensures small { result ≤ max_power }

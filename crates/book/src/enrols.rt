@@ -10,13 +10,11 @@ use super::judge::{is_broken, is_enrolled};
 use super::reads::qse_number;
 use rows::fault::Fault;
 use rows::figures::NO_FIGURES;
+use rows::limits::MAX_QSES;
 use rows::load::LoadRow;
 use rows::qse::QseRow;
 use rows::resource::ResourceRow;
 use rows::trade::TradeRow;
-
-// Most QSEs of a book.
-const MAX_QSES: usize = 64;
 
 // A QSE without figures, not short and not charged.
 fn new_row(number: u16) -> QseRow

@@ -2,7 +2,6 @@
 ghost use Rattle.book.specs.Entries.{Opens};
 
 use super::books::{Counts, Ledger, OpenBook};
-use entry::checks::is_within;
 use rows::fault::Fault;
 
 impl OpenBook {
@@ -10,12 +9,12 @@ impl OpenBook {
     pub fn open(number: i64) -> Result<OpenBook, Fault>
         ensures { Opens number result }
     {
-        if !is_within(number, 0, 4_294_967_295) {
+        let Ok(number) = u32::try_from(number) else {
             return Err(Fault::OutOfLimits { place: 1 });
-        }
+        };
         Ok(OpenBook {
             ledger: Ledger {
-                number: number as u32,
+                number,
                 counts: Counts {
                     qses: 0,
                     loads: 0,

@@ -1,7 +1,8 @@
 // Which capability may cover which position.
 ghost use Rattle.std.specs.Prelude.{ℕ, ◌<◌};
 
-// Capability first, both by the place of the sub-type from 0. A cover's amounts stand in this order.
+// Capability first, both by the place of the sub-type from 0. A cover's amounts stand in this order. Pairs of plain
+// numbers, which `specs/` reads as they stand; `Pair` adds the limits that an index needs.
 pub const PAIRS: [(usize, usize); 14] = [
     (0, 0),
     (1, 1),

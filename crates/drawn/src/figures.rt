@@ -2,8 +2,8 @@
 ghost use Rattle.std.specs.Prelude.{◌≡◌, IfOk};
 ghost use Rattle.drawn.specs.Lists.{drawn_figures, drawn_figures_side, numbers, state_after, times};
 
-use super::codes::SUB_TYPES;
 use super::draws::Draws;
+use rows::limits::SUB_TYPES;
 use std::alloc::AllocError;
 
 // Greatest kW of a sub-type that a QSE owes for each of its units.

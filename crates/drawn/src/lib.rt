@@ -1,7 +1,6 @@
 // QSEs and rows that look drawn and are the same in every run, as lists that can be entered.
 #![tactic(auto)]
 
-mod codes;
 pub mod draws;
 mod figures;
 mod load;

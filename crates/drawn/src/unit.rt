@@ -3,9 +3,9 @@ ghost use Rattle.std.specs.Prelude.{◌≡◌, IfOk, pos};
 ghost use Rattle.drawn.specs.Draws.{next_state};
 ghost use Rattle.drawn.specs.Lists.{amount_of, amount_state, amounts, amounts_state, drawn_kind, drawn_unit, drawn_unit_side, lsl_of, lsl_state, unit_side_state, unit_state};
 
-use super::codes::SUB_TYPES;
 use super::draws::Draws;
 use rows::codes::{Kind, Status};
+use rows::limits::SUB_TYPES;
 use std::alloc::AllocError;
 
 // Greatest kW of a sub-type that a unit offers.

@@ -3,7 +3,7 @@ ghost use Rattle.std.specs.Prelude.{◌≡◌, ℕ, ◌+◌, ◌-◌, ◌<◌, �
 ghost use Rattle.entry.specs.Places.{places as places_of, place_at, size as size_of, with_powers, two_sided};
 
 use super::form::{Form, Rule};
-use rows::limits::{MAX_KWH, MAX_POWER};
+use rows::limits::{MAX_KWH, MAX_POWER, SUB_TYPES};
 
 // The least and the greatest number, and the rule beside them. A triple, since the tables below read as rows of one.
 pub type Place = (i64, i64, Rule);
@@ -61,9 +61,6 @@ const RESOURCE_FIRST: [Place; 4] = [STATUS, POWER, LSL, POTENTIAL];
 
 // Kind, sub-type, sides, seller, buyer, kW.
 const TRADE: [Place; 6] = [TRADED, SUB_TYPE, SIDES, QSE, QSE, KW];
-
-// How many sub-types of reserves there are.
-pub const SUB_TYPES: usize = 9;
 
 // Where the parts of a side stand in it, and how many numbers it has.
 pub const POSITIONS: usize = FIGURES_FIRST.len();

@@ -3,7 +3,7 @@ ghost use Rattle.std.specs.Prelude.{◌≡◌, map, replicate, pos};
 ghost use Rattle.entry.specs.Parts.{Fits};
 ghost use Rattle.entry.specs.Places.{power, sub_types};
 
-use super::places::SUB_TYPES;
+use rows::limits::SUB_TYPES;
 use rows::reserves::Reserves;
 use std::array;
 

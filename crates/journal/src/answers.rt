@@ -18,7 +18,8 @@ pub(crate) fn calls_of<'a>(heap: Global, lines: &'a [Line]) -> Result<Vec<Entry<
     Ok(calls)
 }
 
-// A line of the output for each line; the calls are those of the lines, answered.
+// A line of the output for each line; the calls are those of the lines, answered. Lines and calls are passed in step:
+// `replay` takes the calls as one slice, and a line may ask for none.
 pub(crate) fn say_answers(
     out: &mut String,
     lines: &[Line],

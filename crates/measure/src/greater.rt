@@ -1,5 +1,5 @@
 // The greater of two measures.
-ghost use Rattle.std.specs.Prelude.{ℕ, ◌-◌, max};
+ghost use Rattle.std.specs.Prelude.{ℕ, ◌+◌, ◌-◌, max, length};
 ghost use Rattle.std.proofs.Common.{rules};
 
 use super::measure::Measure;

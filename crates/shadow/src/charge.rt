@@ -1,4 +1,5 @@
 // The cost divided over the QSEs by shortfall, under both editions.
+use super::interval::Interval;
 use super::refusal::Refusal;
 use account::account::Tables;
 use cover::sub_type::SubType;
@@ -10,14 +11,9 @@ use rows::qse::QseRow;
 use shortfall::strike::write_shortfalls;
 use std::io;
 
-pub(crate) fn charge(
-    rt: &HostRuntime,
-    rows: &[QseRow],
-    tables: Tables,
-    pot: u32,
-) -> io::Result<()> {
-    report_charge(rt, "grouped", &Grouped {}, rows, tables, pot)?;
-    report_charge(rt, "subtype", &SubType {}, rows, tables, pot)
+pub(crate) fn charge(rt: &HostRuntime, interval: Interval, pot: u32) -> io::Result<()> {
+    report_charge(rt, "grouped", &Grouped {}, interval, pot)?;
+    report_charge(rt, "subtype", &SubType {}, interval, pot)
 }
 
 // Shortfalls written into the rows, and the pot put on them.
@@ -30,12 +26,11 @@ fn report_charge<M: Measure>(
     rt: &HostRuntime,
     edition: &str,
     m: &M,
-    rows: &[QseRow],
-    tables: Tables,
+    interval: Interval,
     pot: u32,
 ) -> io::Result<()> {
-    let mut own = rows.to_vec(rt.alloc())?;
-    match settle(m, own.as_mut_slice(), tables, pot) {
+    let mut own = interval.qses.to_vec(rt.alloc())?;
+    match settle(m, own.as_mut_slice(), interval.tables, pot) {
         Err(fault) => println!(rt; "cost {pot} {edition} {}", Refusal::Fault(fault)),
         Ok(0) => println!(rt; "cost {pot} {edition} undivided: nobody is short"),
         Ok(_) => {

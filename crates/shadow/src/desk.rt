@@ -7,15 +7,12 @@ use entry::qse::qse_row;
 use entry::resource::resource_row;
 use entry::trade::trade_row;
 use rows::fault::Fault;
-use rows::limits::MAX_ROWS;
+use rows::limits::{MAX_QSES, MAX_ROWS};
 use rows::load::LoadRow;
 use rows::qse::QseRow;
 use rows::resource::ResourceRow;
 use rows::trade::TradeRow;
 use std::alloc::Global;
-
-// Most QSEs of one interval.
-const MAX_QSES: usize = 64;
 
 const MAX_COST: u32 = 1_000_000_000;
 

@@ -4,6 +4,7 @@
 mod charge;
 mod desk;
 mod input;
+mod interval;
 mod names;
 mod refusal;
 mod report;

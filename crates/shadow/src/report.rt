@@ -1,40 +1,36 @@
 // What is printed of an interval.
 use super::charge::charge;
 use super::desk::Desk;
+use super::interval::Interval;
 use super::side::report_side;
-use account::account::{Account, Tables};
+use account::account::Account;
 use cover::sub_type::SubType;
 use measure::grouped::Grouped;
 use rows::codes::Side;
-use rows::qse::QseRow;
 use shortfall::short::short_of;
 use shortfall::total::total_short;
 use std::io;
 
 // Each QSE on both sides under both editions, the totals, and the division of the cost.
 pub(crate) fn report(rt: &HostRuntime, desk: &Desk) -> io::Result<()> {
-    let found = Tables::new(
-        desk.loads.as_slice(),
-        desk.resources.as_slice(),
-        desk.trades.as_slice(),
-    );
-    let Some(tables) = found else {
+    let Some(interval) = Interval::of(desk) else {
         return println!(rt; "too many rows");
     };
-    let rows = desk.qses.as_slice();
-    report_qses(rt, rows, tables)?;
-    let grouped = total_short(&Grouped {}, rows, tables);
-    let sub_type = total_short(&SubType {}, rows, tables);
+    let Interval { qses, tables } = interval;
+    report_qses(rt, interval)?;
+    let grouped = total_short(&Grouped {}, qses, tables);
+    let sub_type = total_short(&SubType {}, qses, tables);
     println!(rt; "total grouped {grouped} subtype {sub_type}")?;
     match desk.cost {
         None => Ok(()),
-        Some(pot) => charge(rt, rows, tables, pot),
+        Some(pot) => charge(rt, interval, pot),
     }
 }
 
-fn report_qses<'a>(rt: &HostRuntime, rows: &'a [QseRow], tables: Tables<'a>) -> io::Result<()> {
+fn report_qses(rt: &HostRuntime, interval: Interval) -> io::Result<()> {
+    let Interval { qses, tables } = interval;
     let mut table = vec![in rt.alloc(); [0u32; 14]; 512]?;
-    for row in rows {
+    for row in qses {
         println!(rt; "qse {}", row.number)?;
         for (word, side) in [("snapshot", Side::Snapshot), ("adjusted", Side::Adjusted)] {
             report_side(

@@ -1,5 +1,5 @@
 -- One resource more never raises a shortfall, by the law Help.
-use Rattle.std.proofs.Common.{◌≡◌, ℕ, List, [], ◌∷◌, ◌++◌, map, ℤ, ◌≤ℤ◌, sym, refl, ap, subst, arith}
+use Rattle.std.proofs.Common.{◌≡◌, ℕ, List, [], ◌∷◌, ◌++◌, map, ℤ, ◌≤ℤ◌, sym, subst, arith}
 use borrow.Author.Differences.{ints}
 use Rattle.std.proofs.lemmas.List.{map-append}
 use Rattle.rows.specs.Rows.{PlainResource}

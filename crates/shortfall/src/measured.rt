@@ -8,30 +8,29 @@ ghost use Rattle.shortfall.specs.Strike.{row_short, First};
 use super::short::short_of;
 use account::account::Tables;
 use measure::measure::Measure;
+use rows::limits::MAX_QSES;
 use rows::qse::QseRow;
-
-// A strike has no more rows than this; a shortfall that is kept is not measured again.
-const KEPT: usize = 64;
 
 #[derive(Clone, Copy)]
 pub(crate) struct Measured {
     pub(crate) sum: u128,
-    // the shortfalls of the first rows, in their order
-    first: [u64; KEPT],
+    // the shortfalls of the first rows, in their order, kept so that they are not measured again; a book has no more
+    first: [u64; MAX_QSES],
 }
 
 impl Measured {
-    // The sum of all shortfalls, and the first of them.
+    // The sum of all shortfalls, and the first of them. The QSE rows stand beside the tables, here and in the two calls
+    // that ask this: one of them writes the rows while it reads the tables.
     pub(crate) fn of<'a, M: Measure>(m: &M, rows: &'a [QseRow], tables: Tables<'a>) -> Measured
         ensures sum { result.sum ≡ total_of (M.meaning m.now) (owns (plain_tables tables.entry) (map plain_qse rows.now)) }
         ensures first { First (M.meaning m.now) (plain_tables tables.entry) rows.now result.first }
     {
         let mut sum = 0u128;
-        let mut first = [0u64; KEPT];
+        let mut first = [0u64; MAX_QSES];
         for (i, row) in rows.iter().enumerate() {
             let s = short_of(m, row, tables);
             sum += u128::from(s);
-            if i < KEPT {
+            if i < MAX_QSES {
                 first[i] = s;
             }
         }
@@ -46,7 +45,7 @@ impl Measured {
         tables: Tables<'a>,
         i: usize,
     ) -> u64
-        requires { i < KEPT → slice_index self.now.first i ≡ row_short (M.meaning m.now) (plain_tables tables) (plain_qse row.now) }
+        requires { i < MAX_QSES → slice_index self.now.first i ≡ row_short (M.meaning m.now) (plain_tables tables) (plain_qse row.now) }
         ensures { result ≡ row_short (M.meaning m.now) (plain_tables tables.entry) (plain_qse row.now) }
     {
         match self.first.get(i) {
