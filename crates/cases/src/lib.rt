@@ -3,3 +3,5 @@
 
 #[cfg(test)]
 mod covers;
+#[cfg(test)]
+mod refusals;
