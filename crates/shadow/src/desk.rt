@@ -1,101 +1,34 @@
-// The rows of one interval as they are entered.
-ghost use Rattle.std.specs.Prelude.{◌≤◌};
-
-use super::refusal::Refusal;
-use entry::load::load_row;
-use entry::qse::qse_row;
-use entry::resource::resource_row;
-use entry::trade::trade_row;
-use rows::fault::Fault;
-use rows::limits::{MAX_QSES, MAX_ROWS};
+// The tables that are lent to the book.
+use super::blanks::{blank_load, blank_qse, blank_resource, blank_trade};
+use super::lengths::Lengths;
 use rows::load::LoadRow;
 use rows::qse::QseRow;
 use rows::resource::ResourceRow;
 use rows::trade::TradeRow;
-use std::alloc::Global;
+use std::alloc::{AllocError, Global};
 
-const MAX_COST: u32 = 1_000_000_000;
-
-// Its tables grow as rows are entered; those of a journal have their lengths from the start.
 #[derive(Drop)]
 pub struct Desk {
     pub qses: Vec<QseRow>,
     pub loads: Vec<LoadRow>,
     pub resources: Vec<ResourceRow>,
     pub trades: Vec<TradeRow>,
-    pub cost: Option<u32>,
-}
-
-// A row more, unless the table has its most.
-fn append<T: Drop>(table: &mut Vec<T>, most: usize, row: T) -> Result<(), Refusal> {
-    if table.len() >= most {
-        return Err(Refusal::Fault(Fault::NoPlace));
-    }
-    table.push(row)?;
-    Ok(())
+    pub covers: Vec<[u32; 14]>,
 }
 
 impl Desk {
-    pub(crate) fn new(heap: Global) -> Desk {
-        Desk {
-            qses: Vec::new(heap),
-            loads: Vec::new(heap),
-            resources: Vec::new(heap),
-            trades: Vec::new(heap),
-            cost: None,
-        }
-    }
-
-    fn known(&self, qse: u16) -> Result<(), Fault> {
-        if self.qses.iter().any(|q| q.number == qse) {
-            Ok(())
-        } else {
-            Err(Fault::NotEnrolled)
-        }
-    }
-
-    // The figures of a new QSE, or in place of its old ones.
-    pub(crate) fn figures(&mut self, list: &[i64]) -> Result<(), Refusal> {
-        let row = qse_row(list)?;
-        if let Some(q) = self.qses.iter_mut().find(|q| q.number == row.number) {
-            q.figures = row.figures;
-            return Ok(());
-        }
-        append(&mut self.qses, MAX_QSES, row)
-    }
-
-    // Loads and resources go the same way into their own tables.
-    pub(crate) fn load(&mut self, list: &[i64]) -> Result<(), Refusal> {
-        let row = load_row(list)?;
-        self.known(row.qse)?;
-        append(&mut self.loads, MAX_ROWS, row)
-    }
-
-    pub(crate) fn resource(&mut self, list: &[i64]) -> Result<(), Refusal> {
-        let row = resource_row(list)?;
-        self.known(row.qse)?;
-        append(&mut self.resources, MAX_ROWS, row)
-    }
-
-    pub(crate) fn trade(&mut self, list: &[i64]) -> Result<(), Refusal> {
-        let row = trade_row(list)?;
-        self.known(row.seller)?;
-        self.known(row.buyer)?;
-        if row.seller == row.buyer {
-            return Err(Refusal::Fault(Fault::BuyerIsSeller));
-        }
-        append(&mut self.trades, MAX_ROWS, row)
-    }
-
-    // The cost to divide, in cents; a later one takes its place.
-    pub(crate) fn set_cost(&mut self, list: &[i64]) -> Result<(), Refusal> {
-        let [cents] = list else {
-            return Err(Refusal::Fault(Fault::WrongLength));
-        };
-        let cost = u32::try_from(*cents)
-            .ok()
-            .filter(|cost| 1 <= *cost && *cost <= MAX_COST);
-        self.cost = Some(cost.ok_or(Fault::OutOfLimits { place: 1 })?);
-        Ok(())
+    pub(crate) fn new(heap: Global, lengths: Lengths) -> Result<Desk, AllocError> {
+        let qses = vec![in heap; blank_qse(); lengths.qses]?;
+        let loads = vec![in heap; blank_load(); lengths.loads]?;
+        let resources = vec![in heap; blank_resource(); lengths.resources]?;
+        let trades = vec![in heap; blank_trade(); lengths.trades]?;
+        let covers = vec![in heap; [0; 14]; lengths.covers]?;
+        Ok(Desk {
+            qses,
+            loads,
+            resources,
+            trades,
+            covers,
+        })
     }
 }

@@ -1,46 +1,51 @@
-// shadow: what one interval will cost each QSE, before the operator's statement arrives.
+// shadow: a journal of calls on a book, answered line by line.
 #![tactic(auto)]
 
-mod charge;
+mod answers;
+mod blanks;
+mod closing;
 mod desk;
-mod input;
-mod interval;
-mod names;
-mod refusal;
-mod report;
-mod side;
+mod lengths;
+mod lines;
+mod opened;
+mod opening;
+mod purse;
+mod requests;
+mod settling;
+mod verbs;
 
-use desk::Desk;
-use input::{Input, read};
-use refusal::Refusal;
-use report::report;
-use std::alloc::Global;
+use lines::read_lines;
+use opening::open_book;
+use settling::settle;
+use std::alloc::{AllocError, Global};
 use std::io;
-use std::io::{BufRead, BufReader};
+use std::io::{Read, Write};
 
-fn main(rt: HostRuntime) -> io::Result<()> {
-    let heap = rt.alloc();
-    let mut desk = Desk::new(heap);
-    let lines = BufReader::new(heap, rt.stdin())?.lines(heap);
-    for (number, line) in (1u64..).zip(lines) {
-        let text = line?;
-        if let Err(refusal) = enter(&mut desk, heap, text.as_str()) {
-            println!(rt; "line {number} {refusal}")?;
-        }
-    }
-    report(&rt, &desk)
+fn main(rt: HostRuntime) -> anyhow::Result<()> {
+    run(&rt)
 }
 
-// One line of the input: a row entered, the cost set, or nothing.
-fn enter(desk: &mut Desk, heap: Global, text: &str) -> Result<(), Refusal> {
-    let Some(input) = read(heap, text)? else {
-        return Ok(());
-    };
-    match input {
-        Input::Figures(list) => desk.figures(list.as_slice()),
-        Input::Load(list) => desk.load(list.as_slice()),
-        Input::Resource(list) => desk.resource(list.as_slice()),
-        Input::Trade(list) => desk.trade(list.as_slice()),
-        Input::Cost(list) => desk.set_cost(list.as_slice()),
+fn run(rt: &HostRuntime) -> anyhow::Result<()> {
+    let bytes = read_all(rt)?;
+    let out = answer(rt.alloc(), bytes.as_slice())?;
+    rt.stdout().write_all(out.as_bytes())?;
+    Ok(())
+}
+
+fn read_all(rt: &HostRuntime) -> io::Result<Vec<u8>> {
+    let mut bytes = Vec::new(rt.alloc());
+    rt.stdin().read_to_end(&mut bytes)?;
+    Ok(bytes)
+}
+
+// The whole output for a journal. Bytes that are no text make no word that is known.
+fn answer(heap: Global, bytes: &[u8]) -> Result<String, AllocError> {
+    let text = String::from_utf8_lossy(heap, bytes)?;
+    let lines = read_lines(heap, text.as_str())?;
+    let mut out = String::new(heap);
+    match open_book(lines.as_slice(), &mut out)? {
+        Some(opened) => settle(heap, opened, &mut out)?,
+        None => out.push_str("no book\n")?,
     }
+    Ok(out)
 }

@@ -1,8 +1,8 @@
 use Rattle.std.proofs.Common.{[], ◌∷◌, ◌++◌, vec_items, refl, ap, ◌∙◌, subst}
 use Rattle.book.specs.State.{struck_book}
 use Rattle.replay.proofs.Emptied.{back_held}
-use Rattle.journal.specs.Kept.{Kept, state_at}
-use Rattle.journal.proofs.purse.hand_all_back.Goals as goal
+use Rattle.shadow.specs.Kept.{Kept, state_at}
+use Rattle.shadow.proofs.purse.hand_all_back.Goals as goal
 
 pub loop-place-preserved-in-Some-place : goal.loop-place-preserved-in-Some-place
 loop-place-preserved-in-Some-place c =

@@ -4,7 +4,7 @@ use Rattle.book.specs.State.{Book, State, state_of}
 use Rattle.book.specs.declared.books.Claim.{Claim}
 use Rattle.replay.specs.Guarantee.{Holding}
 use Rattle.replay.specs.Runs.{desk_of}
-use Rattle.journal.specs.declared.desk.Desk.{Desk}
+use Rattle.shadow.specs.declared.desk.Desk.{Desk}
 
 abbrev pub state_at : Book → Desk → State
 state_at b d = state_of b (vec_items d.qses) (vec_items d.loads) (vec_items d.resources) (vec_items d.trades)

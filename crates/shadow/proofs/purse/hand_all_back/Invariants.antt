@@ -1,7 +1,7 @@
 use Rattle.std.proofs.Common.{vec_items, vec_len}
 use Rattle.book.specs.State.{struck_book}
-use Rattle.journal.specs.Kept.{Kept}
-use Rattle.journal.proofs.purse.hand_all_back.Given as goal
+use Rattle.shadow.specs.Kept.{Kept}
+use Rattle.shadow.proofs.purse.hand_all_back.Given as goal
 
 abbrev pub invariant-loop-place : goal.invariant-loop-place
 invariant-loop-place l = Kept (struck_book l.book) l.desk (vec_items l.purse)

@@ -3,7 +3,7 @@ ghost use Rattle.std.specs.Prelude.{◌≡◌, ℕ, ◌-◌, ◌<◌, IfOk};
 ghost use Rattle.book.specs.State.{struck_book, with_claims};
 ghost use Rattle.replay.specs.Guarantee.{claims_in, Long};
 ghost use Rattle.replay.specs.Runs.{any_book};
-ghost use Rattle.journal.specs.Kept.{Kept, state_at};
+ghost use Rattle.shadow.specs.Kept.{Kept, state_at};
 
 use super::desk::Desk;
 use book::books::{Claim, StruckBook};

@@ -3,7 +3,7 @@ use Rattle.std.proofs.lemmas.List.{take_at}
 use Rattle.replay.specs.Guarantee.{claims_in}
 use Rattle.replay.specs.Runs.{any_book}
 use Rattle.replay.proofs.Emptied.{held_moved}
-use Rattle.journal.proofs.settling.run_calls.Goals as goal
+use Rattle.shadow.proofs.settling.run_calls.Goals as goal
 
 pub returns : goal.returns
 returns c =

@@ -4,7 +4,7 @@ ghost use Rattle.book.specs.Entries.{new_book};
 ghost use Rattle.book.specs.State.{open_book};
 ghost use Rattle.replay.specs.Guarantee.{claims_in};
 ghost use Rattle.replay.specs.Runs.{any_book};
-ghost use Rattle.journal.specs.Kept.{Kept};
+ghost use Rattle.shadow.specs.Kept.{Kept};
 
 use super::answers::{calls_of, say_answers};
 use super::closing::say_closing;

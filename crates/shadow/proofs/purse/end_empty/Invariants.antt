@@ -1,6 +1,6 @@
 use Rattle.std.proofs.Common.{◌≡◌, vec_items, vec_len}
 use Rattle.replay.specs.Guarantee.{claims_in}
-use Rattle.journal.proofs.purse.end_empty.Given as goal
+use Rattle.shadow.proofs.purse.end_empty.Given as goal
 
 abbrev pub invariant-loop-place : goal.invariant-loop-place
 invariant-loop-place l = claims_in (vec_items l.purse) ≡ 0
