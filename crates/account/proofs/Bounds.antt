@@ -28,7 +28,7 @@ pub sum_le : {X : Type 0} (f : X → ℕ) (m : ℕ) → ((x : X) → f x ≤ m) 
 sum_le f m h [] = zero-le
 sum_le f m h (x ∷ xs) = omega (arith, sum_by-cons f x xs, h x, sum_le f m h xs)
 
-cond_le : (b : Bool) (n m : ℕ) → n ≤ m → cond b n 0 ≤ m
+pub cond_le : (b : Bool) (n m : ℕ) → n ≤ m → cond b n 0 ≤ m
 cond_le true n m h = h
 cond_le false n m h = zero-le
 

@@ -1,5 +1,6 @@
 // The figures of an account: load, net, storage net and positions.
-ghost use Rattle.std.specs.Prelude.{◌≡◌, ℕ, ◌+◌, ◌<◌, ◌≤◌, length, ℤ, pos, negsuc, ◌+ℤ◌, ◌-ℤ◌, ◌≤ℤ◌, slice_index, slice_index_or};
+ghost use Rattle.std.specs.Prelude.{◌≡◌, ℕ, ◌+◌, ◌<◌, ◌≤◌, length, ℤ, pos, negsuc, ◌+ℤ◌, ◌-ℤ◌, ◌≤ℤ◌, slice_index, slice_index_or, sum_by};
+ghost use Rattle.rows.specs.Limits.{max_rows};
 ghost use Rattle.rows.specs.Rows.{plain_figures, plain_figures_side};
 ghost use Rattle.account.specs.Own.{figures_on, import_side};
 ghost use Rattle.account.specs.Account.{account_view, load_in, Stands};
@@ -39,6 +40,13 @@ fn load_in(l: &LoadRow, qse: u16) -> u64
     if l.qse == qse { u64::from(l.kwh) } else { 0 }
 }
 
+fn loads_of(rows: &[LoadRow], qse: u16) -> u64
+    requires { length rows.now ≤ max_rows }
+    ensures { result ≡ sum_by (load_in qse) rows.now }
+{
+    rows.iter().map(|l| load_in(l, qse)).sum()
+}
+
 // Purchase less sale, bought less sold, and the import.
 fn balance(figures: &Figures, bought: &Moved, sold: &Moved, import: &FiguresSide) -> i64
     ensures near { (negsuc 5129999999 ≤ℤ result) × (result ≤ℤ pos 5140000000) }
@@ -71,11 +79,7 @@ impl Account<'_> {
         ensures value { result ≡ (account_view self.now).load }
         ensures small { result ≤ 512000000 }
     {
-        let mut sum = 0u64;
-        for l in self.loads {
-            sum += load_in(l, self.qse);
-        }
-        sum
+        loads_of(self.loads, self.qse)
     }
 
     // Load, net, storage net and positions, after one look at the trades for each party.

@@ -17,6 +17,7 @@ pub(crate) struct Plan<'a> {
     ghost is: { room ≡ room_of (plain_side side.now) },
 }
 
+// A pick by side, as `figures_on` in figures.rt.
 pub(crate) fn side_of(row: &ResourceRow, side: Side) -> &ResourceSide
     ensures { plain_side result.now ≡ plan_on side (plain_resource row.now) }
 {

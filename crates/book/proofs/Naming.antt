@@ -1,8 +1,7 @@
 -- A QSE and a side that a call names, as they were read.
-use Rattle.std.proofs.Common.{ℕ, ◌-◌, List, map, take, ℤ, pos, Ok, Err, subst, w64, SFits, to_z, of_z}
+use Rattle.std.proofs.Common.{ℕ, ◌-◌, List, map, take, ℤ, Ok, subst, w64, SFits, to_z, of_z}
 use Rattle.std.proofs.lemmas.Int.{to_z-of_z}
 use Rattle.rows.specs.declared.codes.Side.{Side}
-use Rattle.rows.specs.declared.fault.Fault.{Fault}
 use Rattle.rows.specs.declared.fault.Fault.TheVariants.{NotEnrolled}
 use Rattle.rows.specs.declared.load.LoadRow.{LoadRow}
 use Rattle.rows.specs.declared.qse.QseRow.{QseRow}
@@ -11,7 +10,7 @@ use Rattle.rows.specs.declared.trade.TradeRow.{TradeRow}
 use Rattle.account.specs.View.{counted}
 use Rattle.shortfall.specs.Pool.{Among}
 use Rattle.book.specs.State.{Book, State, state_of}
-use Rattle.book.specs.Causes.{Absent, Earliest, outside, unenrolled}
+use Rattle.book.specs.Causes.{Absent, Earliest, unenrolled}
 use Rattle.book.specs.Reading.{NumberOf, SideOf}
 use Rattle.book.proofs.Judging.{no_row, some_row}
 

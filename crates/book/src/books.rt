@@ -49,6 +49,7 @@ pub struct Claim {
     pub book: u32,
     pub cents: u32,
     pub rate: u32,
+    // a flag, since a type with a `drop` cannot be taken apart where it is spent (tried in `hand_back`)
     spent: bool,
     ghost limits: { (1 ≤ cents) × (cents ≤ 1000000000) × (rate ≤ 1000000) },
 }

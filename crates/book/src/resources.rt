@@ -14,7 +14,7 @@ use rows::resource::ResourceRow;
 use rows::trade::TradeRow;
 
 impl OpenBook {
-    // A resource more, at the end of its table.
+    // A resource more, at the end of its table; the steps are those of `load`.
     pub fn resource(
         &mut self,
         qses: &[QseRow],

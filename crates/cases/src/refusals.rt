@@ -24,17 +24,16 @@ const BLANK_LOAD: LoadRow = LoadRow {
     cents: 0,
 };
 
+const ONE: Option<u8> = Some(1);
+
 // 3,000 kW bought in the day-ahead market
 const BOUGHT: [i64; 27] = [
     7, 0, 3000, 0, 0, 0, 0, 0, 0, 0, 0, 0, 0, 0, 0, 0, 0, 0, 0, 0, 0, 0, 0, 0, 0, 0, 0,
 ];
 
-// The refusal's number, and 0 where the call is granted.
-fn number<T: Drop>(answer: Result<T, Fault>) -> u8 {
-    match answer {
-        Ok(_) => 0,
-        Err(fault) => fault.number(),
-    }
+// The refusal's number, where the call is refused.
+fn number<T: Drop>(answer: Result<T, Fault>) -> Option<u8> {
+    answer.err().map(|fault| fault.number())
 }
 
 // The number of a refusal, after which the claim goes back to its book.
@@ -44,11 +43,11 @@ fn charge_number<T: Drop>(
     book: &mut StruckBook,
     qses: &[QseRow],
     loads: &[LoadRow],
-) -> u8 {
+) -> Option<u8> {
     match answer {
-        Ok(_) => 0,
+        Ok(_) => None,
         Err((claim, fault)) => match book.hand_back(qses, loads, &[], &[], claim) {
-            Ok(()) => fault.number(),
+            Ok(()) => Some(fault.number()),
             Err(_) => panic!(rt; "a claim is left"),
         },
     }
@@ -71,7 +70,7 @@ fn struck(book: OpenBook, qses: &mut [QseRow], loads: &[LoadRow]) -> Result<Stru
     }
 }
 
-fn open_with_short_tables() -> Result<[u8; 8], Fault> {
+fn open_with_short_tables() -> Result<[Option<u8>; 8], Fault> {
     let (mut qses, mut loads) = ([BLANK; 2], [BLANK_LOAD; 2]);
     let (mut few, mut few_loads) = ([BLANK; 1], [BLANK_LOAD; 1]);
     let mut book = two_qses(1, &mut qses, &mut loads)?;
@@ -88,7 +87,7 @@ fn open_with_short_tables() -> Result<[u8; 8], Fault> {
     ])
 }
 
-fn struck_with_short_tables(rt: &impl Abort) -> Result<[u8; 4], Fault> {
+fn struck_with_short_tables(rt: &impl Abort) -> Result<[Option<u8>; 4], Fault> {
     let (mut qses, mut loads) = ([BLANK; 2], [BLANK_LOAD; 2]);
     let (few, mut few_loads) = ([BLANK; 1], [BLANK_LOAD; 1]);
     let mut book = struck(two_qses(1, &mut qses, &mut loads)?, &mut qses, &loads)?;
@@ -105,13 +104,16 @@ fn struck_with_short_tables(rt: &impl Abort) -> Result<[u8; 4], Fault> {
 fn a_table_shorter_than_its_count_is_refused(rt: HostRuntime) {
     assert_eq!(rt;
         open_with_short_tables().ok(),
-        Some([0, 1, 1, 1, 1, 1, 1, 1])
+        Some([None, ONE, ONE, ONE, ONE, ONE, ONE, ONE])
     );
-    assert_eq!(rt; struck_with_short_tables(&rt).ok(), Some([0, 1, 1, 1]));
+    assert_eq!(rt;
+        struck_with_short_tables(&rt).ok(),
+        Some([None, ONE, ONE, ONE])
+    );
 }
 
 // What becomes of a charge of 100 cents on rows that no call wrote, and the cents of the first row after it.
-fn charge_on(rt: &impl Abort, qse: QseRow, load: LoadRow) -> Result<(u8, u64), Fault> {
+fn charge_on(rt: &impl Abort, qse: QseRow, load: LoadRow) -> Result<(Option<u8>, u64), Fault> {
     let (mut qses, mut loads) = ([BLANK; 2], [BLANK_LOAD; 2]);
     let mut book = struck(two_qses(1, &mut qses, &mut loads)?, &mut qses, &loads)?;
     let claim = book.claim(&qses, &loads, &[], &[], 100, 1)?;
@@ -148,29 +150,29 @@ fn load_row(cents: u64) -> LoadRow
 fn a_charge_on_rows_that_no_call_wrote_is_refused(rt: HostRuntime) {
     assert_eq!(rt;
         charge_on(&rt, qse_row(4000, 0), load_row(0)).ok(),
-        Some((0, 4))
+        Some((None, 4))
     );
     assert_eq!(rt;
         charge_on(&rt, qse_row(3999, 0), load_row(0)).ok(),
-        Some((1, 0))
+        Some((ONE, 0))
     );
     assert_eq!(rt;
         charge_on(&rt, qse_row(4000, 999_000_000_000), load_row(0)).ok(),
-        Some((0, 4))
+        Some((None, 4))
     );
     assert_eq!(rt;
         charge_on(&rt, qse_row(4000, 999_000_000_001), load_row(0)).ok(),
-        Some((1, 0))
+        Some((ONE, 0))
     );
     assert_eq!(rt;
         charge_on(&rt, qse_row(4000, 0), load_row(999_000_000_001)).ok(),
-        Some((1, 0))
+        Some((ONE, 0))
     );
 }
 
 // A claim of book 1 charged on that book after the book `other` has refused it: both numbers, and the cents that the
 // refusal left in the first row.
-fn charged_elsewhere(rt: &impl Abort, other: i64) -> Result<(u8, u64, u8), Fault> {
+fn charged_elsewhere(rt: &impl Abort, other: i64) -> Result<(u8, u64, Option<u8>), Fault> {
     let (mut qses, mut loads) = ([BLANK; 2], [BLANK_LOAD; 2]);
     let (mut qses_of_other, mut loads_of_other) = ([BLANK; 2], [BLANK_LOAD; 2]);
     let opened = two_qses(1, &mut qses, &mut loads)?;
@@ -190,7 +192,7 @@ fn charged_elsewhere(rt: &impl Abort, other: i64) -> Result<(u8, u64, u8), Fault
 }
 
 // The same of a claim handed back.
-fn handed_elsewhere(rt: &impl Abort, other: i64) -> Result<(u8, u8), Fault> {
+fn handed_elsewhere(rt: &impl Abort, other: i64) -> Result<(u8, Option<u8>), Fault> {
     let (mut qses, mut loads) = ([BLANK; 2], [BLANK_LOAD; 2]);
     let opened = two_qses(1, &mut qses, &mut loads)?;
     let mut book = struck(opened, &mut qses, &loads)?;
@@ -210,10 +212,10 @@ fn handed_elsewhere(rt: &impl Abort, other: i64) -> Result<(u8, u8), Fault> {
 // A book of another number, and one of this number that has made no claim.
 #[test]
 fn a_foreign_claim_is_refused_and_comes_back(rt: HostRuntime) {
-    assert_eq!(rt; charged_elsewhere(&rt, 2).ok(), Some((12, 0, 0)));
-    assert_eq!(rt; charged_elsewhere(&rt, 1).ok(), Some((12, 0, 0)));
-    assert_eq!(rt; handed_elsewhere(&rt, 2).ok(), Some((12, 0)));
-    assert_eq!(rt; handed_elsewhere(&rt, 1).ok(), Some((12, 0)));
+    assert_eq!(rt; charged_elsewhere(&rt, 2).ok(), Some((12, 0, None)));
+    assert_eq!(rt; charged_elsewhere(&rt, 1).ok(), Some((12, 0, None)));
+    assert_eq!(rt; handed_elsewhere(&rt, 2).ok(), Some((12, None)));
+    assert_eq!(rt; handed_elsewhere(&rt, 1).ok(), Some((12, None)));
 }
 
 // A QSE in two rows, figures entered after that: the first row's shortfall as `short` and `share` give it, the second's.

@@ -13,7 +13,7 @@ use account::account::Account;
 use rows::fault::Fault;
 
 // How many of the resources are the account's.
-fn own_rows(a: &Account) -> usize
+pub fn own_rows(a: &Account) -> usize
     ensures { result ≡ count_by (λ r. owns_resource a.now.qse (plain_resource r)) a.now.resources.now }
 {
     a.resources.iter().filter(|row| a.owns(row)).count()

@@ -21,6 +21,7 @@ pub struct Given {
     pub offline: u64,
 }
 
+// `take_reach` in giving.rt is its counterpart.
 fn add_reach(reached: &mut [u64; 144], offer: &Offer)
     requires { Under 20000000000 reached.old }
     ensures more { (k : ℕ) → k < 144 → slice_index reached.new k ≡ slice_index reached.old k + min offer.now.room (sum_to 9 k offer.now.capability.figures) }

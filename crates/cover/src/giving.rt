@@ -32,7 +32,8 @@ impl Pending {
         d
     }
 
-    // Gives as long as the lines to come, by their sums, can cover what is left.
+    // Gives as long as the lines to come, by their sums, can cover what is left. No `from_fn`: what is given at a pair
+    // changes what the next may give, and the proof goes from pair to pair.
     fn give_all(&mut self, offer: &mut Offer) -> [u32; 14]
         ensures rest { self.new.rest ≡ self.old.rest }
         ensures served { Served self.old.rest offer.old.room offer.old.capability.figures self.old.left.figures self.new.left.figures result }

@@ -6,7 +6,7 @@ use super::weighed::Weighed;
 use rows::limits::MAX_CENTS;
 use rows::load::LoadRow;
 
-// `cents` and `add_cents` stand in both row types: the field is under a limit, so no `&mut` of it can be lent out.
+// `cents` and `add_cents` stand in both row types, since a trait has no fields: the one reads the field, and the field is under a limit, so no `&mut` of it can be lent out.
 impl Weighed for LoadRow {
     ghost weighs = { λ x. x.kwh };
 

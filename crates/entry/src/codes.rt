@@ -8,7 +8,8 @@ ghost use Rattle.entry.specs.Rules.{TypedFor, ZeroUnless};
 
 use rows::codes::{SubType, Traded};
 
-// What a trade moves: its kind, with the sub-type of a position.
+// What a trade moves: its kind, with the sub-type of a position. No `TryFrom`: it takes two numbers, judged before, and
+// cannot fail.
 pub(crate) fn traded_of(x: i64, sub: i64) -> Traded
     requires kind { Within x (pos 1) (pos 3) }
     requires sub { Within sub (pos 0) (pos 9) }

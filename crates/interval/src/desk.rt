@@ -64,7 +64,7 @@ impl Desk {
         append(&mut self.qses, MAX_QSES, row)
     }
 
-    // Loads and resources go the same way into their own tables.
+    // Loads and resources go the same way; a common one would be handed the row, the table and the QSE.
     pub(crate) fn load(&mut self, list: &[i64]) -> Result<(), Refusal> {
         let row = load_row(list)?;
         self.known(row.qse)?;

@@ -11,7 +11,8 @@ pub enum Input {
     Cost(Vec<i64>),
 }
 
-// Nothing where the line is blank or begins with #.
+// Nothing where the line is blank or begins with #. A line of `shadow` is read apart: there a line that cannot be read
+// keeps its number and its verb, and what both do alike is two calls of `str`.
 pub(crate) fn read(heap: Global, text: &str) -> Result<Option<Input>, Refusal> {
     let mut words = text.split_whitespace();
     let Some(first) = words.next() else {

@@ -7,6 +7,7 @@ use account::account::Account;
 use cover::sub_type::SubType;
 use measure::grouped::Grouped;
 use rows::codes::Side;
+use rows::limits::MAX_ROWS;
 use shortfall::short::short_of;
 use shortfall::total::total_short;
 use std::io;
@@ -29,7 +30,7 @@ pub(crate) fn report(rt: &HostRuntime, desk: &Desk) -> io::Result<()> {
 
 fn report_qses(rt: &HostRuntime, interval: Interval) -> io::Result<()> {
     let Interval { qses, tables } = interval;
-    let mut table = vec![in rt.alloc(); [0u32; 14]; 512]?;
+    let mut table = vec![in rt.alloc(); [0u32; 14]; MAX_ROWS]?;
     for row in qses {
         println!(rt; "qse {}", row.number)?;
         for (word, side) in [("snapshot", Side::Snapshot), ("adjusted", Side::Adjusted)] {

@@ -2,7 +2,7 @@
 use super::names::{NAMES, name_of};
 use account::account::Account;
 use cover::binding::binding_set;
-use cover::covering::cover;
+use cover::covering::{cover, own_rows};
 use cover::pairs::PAIRS;
 use cover::sub_type::SubType;
 use measure::backing::Backing;
@@ -65,8 +65,7 @@ fn report_grouped(rt: &HostRuntime, parts: &Breakdown) -> io::Result<()> {
 
 // A line for each unit of the QSE, counted from 1, that serves a reserve.
 fn report_cover(rt: &HostRuntime, a: &Account, table: &[[u32; 14]]) -> io::Result<()> {
-    let units = a.resources.iter().filter(|row| a.owns(row)).count();
-    for (unit, amounts) in (1usize..).zip(table.iter().take(units)) {
+    for (unit, amounts) in (1usize..).zip(table.iter().take(own_rows(a))) {
         report_unit(rt, unit, amounts)?;
     }
     Ok(())

@@ -1,5 +1,5 @@
 -- Totals over lines: a turn of the loop over rows, and the sum over an account's lines.
-use Rattle.std.proofs.Common.{◌≡◌, ℕ, ◌<◌, ◌≤◌, min, true, false, cond, List, map, get_or, sum_by, filter, sym, ap, ◌∙◌, arith}
+use Rattle.std.proofs.Common.{◌≡◌, ℕ, ◌<◌, ◌≤◌, min, true, cond, List, map, get_or, sum_by, filter, sym, ap, ◌∙◌, arith}
 use Rattle.std.specs.List.{AllByRecursion}
 use Rattle.rows.specs.Rows.{plain_resource}
 use Rattle.rows.specs.declared.resource.ResourceRow.{ResourceRow}

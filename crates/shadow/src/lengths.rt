@@ -1,4 +1,6 @@
 // The lengths of the tables.
+use rows::limits::{MAX_QSES, MAX_ROWS};
+
 #[derive(Clone, Copy)]
 pub struct Lengths {
     pub qses: usize,
@@ -19,11 +21,11 @@ impl Lengths {
     // As long as a book can fill them.
     pub(crate) fn usual() -> Lengths {
         Lengths {
-            qses: 64,
-            loads: 512,
-            resources: 512,
-            trades: 512,
-            covers: 512,
+            qses: MAX_QSES,
+            loads: MAX_ROWS,
+            resources: MAX_ROWS,
+            trades: MAX_ROWS,
+            covers: MAX_ROWS,
         }
     }
 

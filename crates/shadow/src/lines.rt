@@ -13,7 +13,7 @@ pub struct Line {
     numbers: Vec<i64>,
 }
 
-// A decimal number within 64 signed bits; only a minus may stand before it.
+// A decimal number within 64 signed bits. Only a minus may stand before it, and `parse` takes a plus too.
 fn number_of(word: &str) -> Option<i64> {
     if word.starts_with('+') {
         return None;

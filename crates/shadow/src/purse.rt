@@ -13,6 +13,7 @@ use std::alloc::{AllocError, Global};
 // One more than a book makes, so that the book itself refuses the claim after its last.
 const PLACES: usize = 1001;
 
+// Place by place: `vec!` of a value wants copies of it, and a claim has none.
 #[tactic(auto, using(replay::proofs::Emptied::empty_push))]
 pub(crate) fn empty_purse(heap: Global) -> Result<Vec<Option<Claim>>, AllocError>
     ensures { IfOk result (λ p. claims_in p.items ≡ 0) }

@@ -7,6 +7,7 @@ use entry::qse::qse_row;
 use entry::resource::resource_row;
 use entry::trade::trade_row;
 use measure::measure::Measure;
+use rows::limits::{MAX_QSES, MAX_ROWS};
 use rows::load::LoadRow;
 use rows::qse::QseRow;
 use rows::resource::ResourceRow;
@@ -15,7 +16,7 @@ use std::alloc::Global;
 
 const SEED: u64 = 20260702;
 
-const QSES: u32 = 64;
+const QSES: u32 = MAX_QSES as u32;
 
 // Loads, resources and trades for each QSE.
 const ROWS_EACH: u32 = 8;
@@ -36,10 +37,10 @@ fn places(heap: Global, draws: &mut Draws) -> anyhow::Result<Lent> {
     let resource = resource_row(draws.unit(1)?.as_slice());
     let trade = trade_row(draws.trade(1, 2)?.as_slice());
     Ok(Lent {
-        qses: vec![in heap; qse.ok().context("the figures are refused")?; 64]?,
-        loads: vec![in heap; load.ok().context("a load is refused")?; 512]?,
-        resources: vec![in heap; resource.ok().context("a unit is refused")?; 512]?,
-        trades: vec![in heap; trade.ok().context("a trade is refused")?; 512]?,
+        qses: vec![in heap; qse.ok().context("the figures are refused")?; MAX_QSES]?,
+        loads: vec![in heap; load.ok().context("a load is refused")?; MAX_ROWS]?,
+        resources: vec![in heap; resource.ok().context("a unit is refused")?; MAX_ROWS]?,
+        trades: vec![in heap; trade.ok().context("a trade is refused")?; MAX_ROWS]?,
     })
 }
 
