@@ -1,5 +1,6 @@
 -- The causes of refusal. A call is judged by its causes in the order of their numbers, and the first that applies is returned.
 use Rattle.std.specs.Prelude.{◌≡◌, ℕ, ◌<◌, ◌≤◌, true, ◌⊎◌, List, [], ◌∷◌, length, ℤ, Some, None, Option, ◌≢◌, slice_index, slice_index_or}
+use Rattle.rows.specs.Limits.{max_claims}
 use Rattle.rows.specs.declared.fault.Fault.{Fault}
 use Rattle.rows.specs.declared.fault.Fault.TheVariants.{BrokenTable, OutOfLimits, NotEnrolled, AlreadyEnrolled, BuyerIsSeller, NoPlace, NoSuchTrade, ClaimsUsedUp, ForeignClaim, ClaimOutstanding}
 use Rattle.entry.specs.Keeps.{Refused, Within}
@@ -82,7 +83,7 @@ abbrev pub no_trade : State → ℕ → Cause
 no_trade s k e = (e ≡ NoSuchTrade) × (Standing s k → ⊥)
 
 abbrev pub claims_used : State → Cause
-claims_used s e = (e ≡ ClaimsUsedUp) × (1000 ≤ s.book.made)
+claims_used s e = (e ≡ ClaimsUsedUp) × (max_claims ≤ s.book.made)
 
 -- the claim is another book's, or none of this book's is outstanding
 abbrev pub Foreign : ℕ → ℕ → ℕ → Type 0

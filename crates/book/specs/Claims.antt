@@ -1,5 +1,6 @@
 -- What the calls about claims answer, and what they make of the book.
 use Rattle.std.specs.Prelude.{◌≡◌, ℕ, ◌+◌, ◌-◌, false, [], ◌∷◌, ℤ, pos, Ok, Err, Result}
+use Rattle.rows.specs.Limits.{max_cost, max_rate}
 use Rattle.rows.specs.declared.fault.Fault.{Fault}
 use Rattle.book.specs.State.{State, open_book, with_book, with_claims, with_strike}
 use Rattle.book.specs.Causes.{Judged, Clear, broken, outside, claims_used, foreign, outstanding}
@@ -17,10 +18,10 @@ pub record Holds (c : Claim) (number : ℕ) (amount perMw : ℤ) : Type 0 where
 -- one claim more is made and outstanding
 abbrev pub Claims : ℤ → ℤ → State → State → Result Claim Fault → Type 0
 Claims cents rate s s' (Ok c) =
-    Clear (broken s ∷ outside 1 cents (pos 1) (pos 1000000000) ∷ outside 2 rate (pos 0) (pos 1000000) ∷ claims_used s ∷ [])
+    Clear (broken s ∷ outside 1 cents (pos 1) (pos max_cost) ∷ outside 2 rate (pos 0) (pos max_rate) ∷ claims_used s ∷ [])
     × Holds c s.book.number cents rate × (s' ≡ with_book s (with_claims s.book (s.book.made + 1) (s.book.outstanding + 1)))
 Claims cents rate s s' (Err e) =
-    Judged (broken s ∷ outside 1 cents (pos 1) (pos 1000000000) ∷ outside 2 rate (pos 0) (pos 1000000) ∷ claims_used s ∷ []) e × (s' ≡ s)
+    Judged (broken s ∷ outside 1 cents (pos 1) (pos max_cost) ∷ outside 2 rate (pos 0) (pos max_rate) ∷ claims_used s ∷ []) e × (s' ≡ s)
 
 -- the claim is spent and no longer outstanding, or comes back as it was
 abbrev pub HandsBack : Claim → State → State → Result (Unit {0}) (Claim × Fault) → Type 0

@@ -1,6 +1,6 @@
 -- What the calls that enter rows answer, and what they make of the book.
 use Rattle.std.specs.Prelude.{◌≡◌, ℕ, zero, suc, ◌+◌, ◌<◌, true, false, cond, List, [], ◌∷◌, ◌++◌, length, drop, ℤ, pos, Ok, Err, Result, ◌==◌, slice_set}
-use Rattle.rows.specs.Limits.{max_rows}
+use Rattle.rows.specs.Limits.{max_rows, max_number, max_book, max_qses}
 use Rattle.rows.specs.Rows.{PlainQse, PlainFigures, PlainLoad, PlainResource, PlainTrade}
 use Rattle.rows.specs.declared.fault.Fault.{Fault}
 use Rattle.entry.specs.Numbers.{figures_numbers, plain_load_numbers, resource_numbers, trade_numbers}
@@ -27,8 +27,8 @@ abbrev pub new_book : ℕ → Book
 new_book n = record { number = n; struck = false; total = 0; made = 0; outstanding = 0; qses = 0; loads = 0; resources = 0; trades = 0 }
 
 abbrev pub Opens : ℤ → Result OpenBook Fault → Type 0
-Opens n (Ok b) = Clear (outside 1 n (pos 0) (pos 4294967295) ∷ []) × (open_book b ≡ new_book (counted n))
-Opens n (Err e) = Judged (outside 1 n (pos 0) (pos 4294967295) ∷ []) e
+Opens n (Ok b) = Clear (outside 1 n (pos 0) (pos max_book) ∷ []) × (open_book b ≡ new_book (counted n))
+Opens n (Err e) = Judged (outside 1 n (pos 0) (pos max_book) ∷ []) e
 
 -- a QSE as it is enrolled
 abbrev pub new_qse : ℕ → PlainQse
@@ -36,7 +36,7 @@ new_qse q = record { number = q; figures = no_figures; shortfall = 0; cents = 0 
 
 abbrev pub Enrols : ℤ → State → State → Result (Unit {0}) Fault → Type 0
 Enrols q s s' r =
-    Outcome (broken s ∷ outside 1 q (pos 1) (pos 65535) ∷ already s (counted q) ∷ full s.book.qses 64 (length s.qses) ∷ [])
+    Outcome (broken s ∷ outside 1 q (pos 1) (pos max_number) ∷ already s (counted q) ∷ full s.book.qses max_qses (length s.qses) ∷ [])
     (λ _ t. t ≡ add_qse s (new_qse (counted q))) s s' r
 
 abbrev pub refigure : PlainFigures → PlainQse → PlainQse

@@ -1,6 +1,6 @@
 -- What the calls that measure answer, and what they write.
 use Rattle.std.specs.Prelude.{◌≡◌, ℕ, ◌<◌, true, cond, List, [], ◌∷◌, ◌++◌, map, length, drop, ℤ, pos, Some, None, Ok, Err, Option, Result, ◌==◌}
-use Rattle.rows.specs.Limits.{max_shortfall}
+use Rattle.rows.specs.Limits.{max_shortfall, max_number}
 use Rattle.rows.specs.Rows.{PlainQse}
 use Rattle.rows.specs.declared.codes.Side.{Side}
 use Rattle.rows.specs.declared.codes.Side.TheVariants.{Snapshot, Adjusted}
@@ -20,7 +20,7 @@ use Rattle.book.specs.declared.books.StruckBook.{StruckBook}
 
 -- the causes of a call that names one QSE
 abbrev pub naming : ℤ → State → List Cause
-naming q s = broken s ∷ outside 1 q (pos 1) (pos 65535) ∷ unenrolled s (counted q) ∷ []
+naming q s = broken s ∷ outside 1 q (pos 1) (pos max_number) ∷ unenrolled s (counted q) ∷ []
 
 -- the shortfall of a QSE by its own rows; no table is touched
 abbrev pub Shorts : (View → ℕ) → ℤ → State → Result ℕ Fault → Type 0
@@ -66,7 +66,7 @@ cover_short n v e = (e ≡ CoverTooShort) × (n < length v.lines)
 
 abbrev pub covering : ℤ → ℤ → ℕ → State → List Cause
 covering q side n s =
-    broken s ∷ outside 1 q (pos 1) (pos 65535) ∷ outside 2 side (pos 1) (pos 2) ∷ unenrolled s (counted q) ∷ cover_short n (view_at q side s) ∷ []
+    broken s ∷ outside 1 q (pos 1) (pos max_number) ∷ outside 2 side (pos 1) (pos 2) ∷ unenrolled s (counted q) ∷ cover_short n (view_at q side s) ∷ []
 
 -- cs and cs' are the cover table before and after; no other is touched
 abbrev pub Covers : ℤ → ℤ → State → List (List ℕ) → List (List ℕ) → Result ℕ Fault → Type 0

@@ -1,5 +1,6 @@
 -- What a call reads of its arguments: the QSE and the side that it names, and the tables that its book counts.
 use Rattle.std.specs.Prelude.{◌≡◌, ℕ, List, map, take, ℤ, pos, Ok, Err, Result}
+use Rattle.rows.specs.Limits.{max_number}
 use Rattle.rows.specs.Rows.{plain_load, plain_resource, plain_trade}
 use Rattle.rows.specs.declared.codes.Side.{Side}
 use Rattle.rows.specs.declared.fault.Fault.{Fault}
@@ -14,8 +15,8 @@ use Rattle.book.specs.declared.books.Counts.{Counts}
 
 -- the number of a QSE, the first figure of a call
 abbrev pub NumberOf : ℤ → Result ℕ Fault → Type 0
-NumberOf q (Ok n) = Absent (outside 1 q (pos 1) (pos 65535)) × (n ≡ counted q)
-NumberOf q (Err e) = outside 1 q (pos 1) (pos 65535) e
+NumberOf q (Ok n) = Absent (outside 1 q (pos 1) (pos max_number)) × (n ≡ counted q)
+NumberOf q (Err e) = outside 1 q (pos 1) (pos max_number) e
 
 -- a side, the second figure of a call
 abbrev pub SideOf : ℤ → Result Side Fault → Type 0

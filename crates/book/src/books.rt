@@ -5,7 +5,7 @@
 // so. A struct of them was tried: lent as a whole it asks for writing where a call only reads, and a call that writes
 // one table while it reads another through the struct has no rule in the borrow checker.
 ghost use Rattle.std.specs.Prelude.{◌≡◌, ℕ, ◌≤◌, true};
-ghost use Rattle.rows.specs.Limits.{max_rows, max_shortfall};
+ghost use Rattle.rows.specs.Limits.{max_rows, max_shortfall, max_qses, max_claims, max_cost, max_rate};
 
 pub mod charges;
 pub mod claims;
@@ -17,7 +17,7 @@ pub struct Counts {
     pub loads: usize,
     pub resources: usize,
     pub trades: usize,
-    ghost few: { (qses ≤ 64) × (loads ≤ max_rows) × (resources ≤ max_rows) × (trades ≤ max_rows) },
+    ghost few: { (qses ≤ max_qses) × (loads ≤ max_rows) × (resources ≤ max_rows) × (trades ≤ max_rows) },
 }
 
 // What a book keeps, open or struck: the counts of its rows and of its claims.
@@ -27,7 +27,7 @@ pub struct Ledger {
     pub counts: Counts,
     pub made: u16,
     pub outstanding: u16,
-    ghost claims: { (outstanding ≤ made) × (made ≤ 1000) },
+    ghost claims: { (outstanding ≤ made) × (made ≤ max_claims) },
 }
 
 // A book that takes entries.
@@ -51,7 +51,7 @@ pub struct Claim {
     pub rate: u32,
     // a flag, since a type with a `drop` cannot be taken apart where it is spent (tried in `hand_back`)
     spent: bool,
-    ghost limits: { (1 ≤ cents) × (cents ≤ 1000000000) × (rate ≤ 1000000) },
+    ghost limits: { (1 ≤ cents) × (cents ≤ max_cost) × (rate ≤ max_rate) },
 }
 
 impl Drop for Claim {

@@ -8,6 +8,7 @@ use account::account::Tables;
 use entry::checks::is_within;
 use rows::codes::Side;
 use rows::fault::Fault;
+use rows::limits::MAX_NUMBER;
 use rows::load::LoadRow;
 use rows::resource::ResourceRow;
 use rows::trade::TradeRow;
@@ -16,7 +17,7 @@ use rows::trade::TradeRow;
 pub(crate) fn qse_number(qse: i64) -> Result<u16, Fault>
     ensures { NumberOf qse result }
 {
-    if !is_within(qse, 1, 65535) {
+    if !is_within(qse, 1, i64::from(MAX_NUMBER)) {
         return Err(Fault::OutOfLimits { place: 1 });
     }
     Ok(qse as u16)

@@ -5,20 +5,21 @@ use book::books::{Claim, OpenBook, StruckBook};
 use measure::grouped::Grouped;
 use rows::fault::Fault;
 use rows::figures::NO_FIGURES;
+use rows::limits::MAX_NUMBER;
 use rows::load::LoadRow;
 use rows::qse::QseRow;
 use std::process::Abort;
 
 // Rows as tables hold them before a book writes them.
 const BLANK: QseRow = QseRow {
-    number: 65535,
+    number: MAX_NUMBER,
     figures: NO_FIGURES,
     shortfall: 0,
     cents: 0,
 };
 
 const BLANK_LOAD: LoadRow = LoadRow {
-    qse: 65535,
+    qse: MAX_NUMBER,
     point: 0,
     kwh: 0,
     cents: 0,

@@ -1,6 +1,6 @@
 -- The places of each list.
 use Rattle.std.specs.Prelude.{ℕ, ◌+◌, ◌*◌, List, [], ◌∷◌, ◌++◌, length, replicate, ℤ, pos, slice_index_or}
-use Rattle.rows.specs.Limits.{max_power, lowest_power, highest_power, max_kwh}
+use Rattle.rows.specs.Limits.{max_power, lowest_power, highest_power, max_kwh, max_number, max_point}
 use Rattle.entry.specs.declared.form.Form.{Form}
 use Rattle.entry.specs.declared.form.Form.TheVariants.{Figures, Load, Resource, Trade}
 use Rattle.entry.specs.declared.form.Rule.{Rule}
@@ -30,7 +30,7 @@ signed = (lowest_power, highest_power, Free)
 
 -- the number of a QSE
 abbrev pub named : Place
-named = from 1 65535
+named = from 1 max_number
 
 abbrev pub marked : Place
 marked = from 0 1
@@ -89,7 +89,7 @@ two_sided head side = head ++ (side ++ side)
 abbrev pub places : Form → List Place
 places Figures = two_sided figures_head figures_side
 -- QSE, settlement point, kWh
-places Load = named ∷ from 0 65535 ∷ from 0 max_kwh ∷ []
+places Load = named ∷ from 0 max_point ∷ from 0 max_kwh ∷ []
 places Resource = two_sided resource_head resource_side
 -- kind, sub-type, sides, seller, buyer, kW
 places Trade = from 1 3 ∷ (pos 0, pos 9, SubTyped) ∷ from 1 3 ∷ named ∷ named ∷ from 1 max_power ∷ []

@@ -3,7 +3,7 @@ ghost use Rattle.std.specs.Prelude.{◌≡◌, ℕ, ◌+◌, ◌-◌, ◌<◌, �
 ghost use Rattle.entry.specs.Places.{places as places_of, place_at, size as size_of, with_powers, two_sided};
 
 use super::form::{Form, Rule};
-use rows::limits::{MAX_KWH, MAX_POWER, SUB_TYPES};
+use rows::limits::{MAX_KWH, MAX_NUMBER, MAX_POINT, MAX_POWER, SUB_TYPES};
 
 // The least and the greatest number, and the rule beside them. A triple, since the tables below read as rows of one.
 pub type Place = (i64, i64, Rule);
@@ -15,11 +15,11 @@ const POWER: Place = (0, HIGHEST, Rule::Free);
 
 const SIGNED: Place = (-HIGHEST, HIGHEST, Rule::Free);
 
-const QSE: Place = (1, 65535, Rule::Free);
+const QSE: Place = (1, MAX_NUMBER as i64, Rule::Free);
 
 const FLAG: Place = (0, 1, Rule::Free);
 
-const POINT: Place = (0, 65535, Rule::Free);
+const POINT: Place = (0, MAX_POINT as i64, Rule::Free);
 
 const KWH: Place = (0, MAX_KWH as i64, Rule::Free);
 

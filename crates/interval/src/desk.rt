@@ -7,14 +7,12 @@ use entry::qse::qse_row;
 use entry::resource::resource_row;
 use entry::trade::trade_row;
 use rows::fault::Fault;
-use rows::limits::{MAX_QSES, MAX_ROWS};
+use rows::limits::{MAX_COST, MAX_QSES, MAX_ROWS};
 use rows::load::LoadRow;
 use rows::qse::QseRow;
 use rows::resource::ResourceRow;
 use rows::trade::TradeRow;
 use std::alloc::Global;
-
-const MAX_COST: u32 = 1_000_000_000;
 
 // Its tables grow as rows are entered; those of a journal have their lengths from the start.
 #[derive(Drop)]

@@ -2,6 +2,7 @@
 use Rattle.std.specs.Prelude.{ℕ, ◌+◌, ◌*◌, ◌≤◌, List, pos, ◌-ℤ◌, sum_by}
 use Rattle.std.proofs.Common.{arith}
 use Rattle.std.proofs.lemmas.Int.{ints}
+use Rattle.rows.specs.Limits.{max_qses}
 use Rattle.account.specs.View.{View, nine, reg_up, reg_down, rrs, slow, up}
 use Rattle.account.specs.Within.{Within}
 use Rattle.account.proofs.Bounds.{counted_is}
@@ -36,7 +37,7 @@ lawful_unstored l = record {
 pub lawful_grouped : Lawful grouped
 lawful_grouped = lawful_max (lawful_unstored lawful_overall) lawful_reserve
 
-module _ (v : View) (h : Within 64 v) where
+module _ (v : View) (h : Within max_qses v) where
   -- what is asked of some sub-types is at most what is asked of all nine
   pub all_small : asked nine v ≤ 333440000000
   all_small = omega (arith, h.positions)
@@ -64,7 +65,7 @@ module _ (v : View) (h : Within 64 v) where
       let b6 = level_small reg_down (omega (arith, a)) in
       omega (arith, b1, b2, b3, b4, b5, b6)
 
-unstored_within : (v : View) → Within 64 v → Within 64 (unstored v)
+unstored_within : (v : View) → Within max_qses v → Within max_qses (unstored v)
 unstored_within v h = record { load = h.load; net = h.net; storage = record { le = tt }; positions = h.positions }
 
 pub grouped_bound : Bound grouped

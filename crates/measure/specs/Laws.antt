@@ -1,6 +1,7 @@
 -- The laws of a measure, over what it means on views.
 use Rattle.std.specs.Prelude.{◌≡◌, ℕ, ◌+◌, ◌≤◌, List, [], ◌∷◌, ◌≤ℤ◌}
 use Rattle.std.specs.List.Sorted.{IsPermutation}
+use Rattle.rows.specs.Limits.{max_qses, max_value}
 use Rattle.account.specs.View.{View, Line, zeros, add, with_lines}
 use Rattle.account.specs.Within.{Within}
 
@@ -42,6 +43,6 @@ Help m = (v w : View) → Helped v w → m w ≤ m v
 abbrev pub Nothing : (View → ℕ) → Type 0
 Nothing m = m zeros ≡ 0
 
--- the figures of up to 64 accounts of limited rows are worth at most 10^12
+-- the figures of as many accounts of limited rows as a book has are worth no more than a value may be
 abbrev pub Bound : (View → ℕ) → Type 0
-Bound m = (v : View) → Within 64 v → m v ≤ 1000000000000
+Bound m = (v : View) → Within max_qses v → m v ≤ max_value

@@ -12,6 +12,20 @@ pub const MAX_CENTS: u64 = 1_000_000_000_000;
 // No shortfall written into a row, and no sum of them, is above this.
 pub const MAX_SHORTFALL: u32 = 4_000_000_000;
 
+// The greatest number of a QSE, and of a settlement point.
+pub const MAX_NUMBER: u16 = 65535;
+
+pub const MAX_POINT: u16 = 65535;
+
+// The cost of a unit, or the part of it that one claim is for, is 1 to this many cents.
+pub const MAX_COST: u32 = 1_000_000_000;
+
+// The rate of a claim is at most this many cents per MW.
+pub const MAX_RATE: u32 = 1_000_000;
+
+// A book makes at most this many claims.
+pub const MAX_CLAIMS: u16 = 1000;
+
 // How many sub-types of reserves there are.
 pub const SUB_TYPES: usize = 9;
 

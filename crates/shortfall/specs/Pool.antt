@@ -1,6 +1,7 @@
 -- The pool: one QSE that every row names.
 use Rattle.std.specs.Prelude.{◌≡◌, ℕ, ◌≤◌, ◌⊎◌, List, [], ◌∷◌, map, length, sum_by}
 use Rattle.std.specs.List.{AllByRecursion}
+use Rattle.rows.specs.Limits.{max_qses, max_value}
 use Rattle.rows.specs.Rows.{PlainQse, PlainResource}
 use Rattle.rows.specs.declared.codes.Side.{Side}
 use Rattle.account.specs.View.{View, zeros, add, with_lines}
@@ -47,6 +48,6 @@ CoversPool m t qs s =
     → AllByRecursion (λ r. Among (numbers qs) r.qse) t.resources
     → pool_shortfall m (owns t qs) t.resources ≤ s
 
--- the pool of up to 64 QSEs is worth at most 10^12 on either side
+-- the pool of no more QSEs than a book has is worth no more than a value may be, on either side
 abbrev pub PoolBounded : (View → ℕ) → PlainTables → List PlainQse → Type 0
-PoolBounded m t qs = length qs ≤ 64 → (side : Side) → m (pool_view (owns t qs) t.resources side) ≤ 1000000000000
+PoolBounded m t qs = length qs ≤ max_qses → (side : Side) → m (pool_view (owns t qs) t.resources side) ≤ max_value

@@ -1,6 +1,6 @@
 -- Shortfalls written into their rows.
 use Rattle.std.specs.Prelude.{◌≡◌, ℕ, ◌<◌, ◌≤◌, List, map, length, Ok, Err, Result, slice_index, slice_index_or}
-use Rattle.rows.specs.Limits.{max_shortfall}
+use Rattle.rows.specs.Limits.{max_shortfall, max_qses}
 use Rattle.rows.specs.Rows.{PlainQse, plain_qse}
 use Rattle.rows.specs.declared.qse.QseRow.{QseRow}
 use Rattle.rows.specs.declared.fault.Fault.{Fault}
@@ -17,9 +17,9 @@ row_short m t q = shortfall_of m (qse_own q t)
 abbrev pub written : (View → ℕ) → PlainTables → PlainQse → PlainQse
 written m t q = record { number = q.number; figures = q.figures; shortfall = row_short m t q; cents = q.cents }
 
--- xs are the first 64 shortfalls, in the order of their rows
+-- xs are the shortfalls of as many first rows as a book has, in the order of the rows
 abbrev pub First : (View → ℕ) → PlainTables → List QseRow → List ℕ → Type 0
-First m t qs xs = (i : ℕ) → i < length qs → i < 64 → (d : QseRow) → slice_index xs i ≡ row_short m t (plain_qse (slice_index_or qs i d))
+First m t qs xs = (i : ℕ) → i < length qs → i < max_qses → (d : QseRow) → slice_index xs i ≡ row_short m t (plain_qse (slice_index_or qs i d))
 
 -- every shortfall is written and T is their sum, at least the pool's; or T is too high and nothing is written
 abbrev pub Struck : (View → ℕ) → PlainTables → List PlainQse → List PlainQse → Result ℕ Fault → Type 0

@@ -1,5 +1,6 @@
 // The shortfall of one QSE.
 ghost use Rattle.std.specs.Prelude.{◌≡◌, ℕ, ◌-◌, ◌≤◌, max};
+ghost use Rattle.rows.specs.Limits.{max_value};
 ghost use Rattle.rows.specs.Rows.{plain_qse};
 ghost use Rattle.account.specs.Account.{account_view, plain_tables};
 ghost use Rattle.account.specs.Own.{qse_own};
@@ -22,7 +23,7 @@ fn beyond_credit<M: Measure>(m: &M, snapshot: &Account, adjusted: &Account, cred
 // By the rows of the QSE alone; one more resource of its own would never raise it.
 pub fn short_of<'a, M: Measure>(m: &M, row: &'a QseRow, tables: Tables<'a>) -> u64
     ensures value { result ≡ shortfall_of (M.meaning m.now) (qse_own (plain_qse row.now) (plain_tables tables.entry)) }
-    ensures small { result ≤ 1000000000000 }
+    ensures small { result ≤ max_value }
     ensures helped { NeverRaised (M.meaning m.now) (qse_own (plain_qse row.now) (plain_tables tables.entry)) result }
 {
     let snapshot = Account::new(row, Side::Snapshot, tables);

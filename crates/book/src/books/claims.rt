@@ -8,6 +8,7 @@ use super::super::judge::is_broken;
 use super::{Claim, StruckBook};
 use entry::checks::is_within;
 use rows::fault::Fault;
+use rows::limits::{MAX_CLAIMS, MAX_COST, MAX_RATE};
 use rows::load::LoadRow;
 use rows::qse::QseRow;
 use rows::resource::ResourceRow;
@@ -36,13 +37,13 @@ impl StruckBook {
         if is_broken(self.ledger.counts, qses, loads, resources, trades) {
             return Err(Fault::BrokenTable);
         }
-        if !is_within(cents, 1, 1_000_000_000) {
+        if !is_within(cents, 1, i64::from(MAX_COST)) {
             return Err(Fault::OutOfLimits { place: 1 });
         }
-        if !is_within(rate, 0, 1_000_000) {
+        if !is_within(rate, 0, i64::from(MAX_RATE)) {
             return Err(Fault::OutOfLimits { place: 2 });
         }
-        if self.ledger.made >= 1000 {
+        if self.ledger.made >= MAX_CLAIMS {
             return Err(Fault::ClaimsUsedUp);
         }
         self.ledger.made += 1;
