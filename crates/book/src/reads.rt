@@ -17,7 +17,7 @@ use rows::trade::TradeRow;
 pub(crate) fn qse_number(qse: i64) -> Result<u16, Fault>
     ensures { NumberOf qse result }
 {
-    if !is_within(qse, 1, i64::from(MAX_NUMBER)) {
+    if !is_within(qse, 1, MAX_NUMBER as i64) {
         return Err(Fault::OutOfLimits { place: 1 });
     }
     Ok(qse as u16)

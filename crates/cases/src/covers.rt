@@ -1,4 +1,8 @@
 // Accounts of one QSE whose covers are known.
+use super::lists::{
+    ASK_NOTHING, ASK_PFR, ASK_REGULATION, ASK_RRS, ASK_UFR, BOTH_RRS, GENERATOR_PFR, LOAD_UFR,
+    ONLY_UFR, REGULATION,
+};
 use account::account::{Account, Tables};
 use cover::covering::cover;
 use cover::uncovered::least_uncovered;
@@ -10,41 +14,6 @@ use rows::fault::Fault;
 use rows::qse::QseRow;
 use rows::resource::ResourceRow;
 
-// a generator of 30 kW that can give PFR or UFR
-const BOTH_RRS: [i64; 67] = [
-    1, 1, 0, 0, 0, 1, 30, 0, 0, 0, 0, 30, 30, 0, 0, 0, 0, 0, 0, 0, 30, 30, 0, 0, 0, 0, 0, 0, 0, 30,
-    30, 0, 0, 0, 0, 0, 1, 30, 0, 0, 0, 0, 30, 30, 0, 0, 0, 0, 0, 0, 0, 30, 30, 0, 0, 0, 0, 0, 0, 0,
-    30, 30, 0, 0, 0, 0, 0,
-];
-
-// a generator of 30 kW that can give UFR alone
-const ONLY_UFR: [i64; 67] = [
-    1, 1, 0, 0, 0, 1, 30, 0, 0, 0, 0, 0, 30, 0, 0, 0, 0, 0, 0, 0, 0, 30, 0, 0, 0, 0, 0, 0, 0, 0,
-    30, 0, 0, 0, 0, 0, 1, 30, 0, 0, 0, 0, 0, 30, 0, 0, 0, 0, 0, 0, 0, 0, 30, 0, 0, 0, 0, 0, 0, 0,
-    0, 30, 0, 0, 0, 0, 0,
-];
-
-// a generator of 100 kW that offers all of it as Reg-Up and again as Reg-Down
-const REGULATION: [i64; 67] = [
-    1, 1, 0, 0, 0, 1, 100, 0, 0, 100, 100, 0, 0, 0, 0, 0, 0, 0, 100, 100, 0, 0, 0, 0, 0, 0, 0, 100,
-    100, 0, 0, 0, 0, 0, 0, 0, 1, 100, 0, 0, 100, 100, 0, 0, 0, 0, 0, 0, 0, 100, 100, 0, 0, 0, 0, 0,
-    0, 0, 100, 100, 0, 0, 0, 0, 0, 0, 0,
-];
-
-// a load resource of 50 kW with UFR
-const LOAD_UFR: [i64; 67] = [
-    1, 4, 0, 0, 0, 1, 50, 0, 0, 0, 0, 0, 50, 0, 0, 0, 0, 0, 0, 0, 0, 50, 0, 0, 0, 0, 0, 0, 0, 0,
-    50, 0, 0, 0, 0, 0, 1, 50, 0, 0, 0, 0, 0, 50, 0, 0, 0, 0, 0, 0, 0, 0, 50, 0, 0, 0, 0, 0, 0, 0,
-    0, 50, 0, 0, 0, 0, 0,
-];
-
-// a generator of 50 kW with PFR
-const GENERATOR_PFR: [i64; 67] = [
-    1, 1, 0, 0, 0, 1, 50, 0, 0, 0, 0, 50, 0, 0, 0, 0, 0, 0, 0, 0, 50, 0, 0, 0, 0, 0, 0, 0, 0, 50,
-    0, 0, 0, 0, 0, 0, 1, 50, 0, 0, 0, 0, 50, 0, 0, 0, 0, 0, 0, 0, 0, 50, 0, 0, 0, 0, 0, 0, 0, 0,
-    50, 0, 0, 0, 0, 0, 0,
-];
-
 // a generator that is absent
 const ABSENT: [i64; 67] = [
     1, 1, 0, 0, 0, 0, 500, 0, 0, 100, 0, 0, 0, 0, 0, 0, 0, 0, 100, 0, 0, 0, 0, 0, 0, 0, 0, 100, 0,
@@ -52,36 +21,11 @@ const ABSENT: [i64; 67] = [
     100, 0, 0, 0, 0, 0, 0, 0, 0,
 ];
 
-// positions
-const ASK_RRS: [i64; 27] = [
-    1, 0, 0, 0, 0, 0, 0, 0, 0, 30, 30, 0, 0, 0, 0, 0, 0, 0, 0, 0, 30, 30, 0, 0, 0, 0, 0,
-];
-
-// positions
-const ASK_REGULATION: [i64; 27] = [
-    1, 0, 0, 0, 0, 0, 0, 100, 100, 0, 0, 0, 0, 0, 0, 0, 0, 0, 100, 100, 0, 0, 0, 0, 0, 0, 0,
-];
-
-// positions
-const ASK_PFR: [i64; 27] = [
-    1, 0, 0, 0, 0, 0, 0, 0, 0, 50, 0, 0, 0, 0, 0, 0, 0, 0, 0, 0, 50, 0, 0, 0, 0, 0, 0,
-];
-
-// positions
-const ASK_UFR: [i64; 27] = [
-    1, 0, 0, 0, 0, 0, 0, 0, 0, 0, 50, 0, 0, 0, 0, 0, 0, 0, 0, 0, 0, 50, 0, 0, 0, 0, 0,
-];
-
 // positions far above every capability
 const ASK_ALL: [i64; 27] = [
     1, 0, 0, 0, 0, 0, 0, 10000000, 10000000, 10000000, 10000000, 10000000, 10000000, 10000000,
     10000000, 10000000, 0, 0, 10000000, 10000000, 10000000, 10000000, 10000000, 10000000, 10000000,
     10000000, 10000000,
-];
-
-// no positions
-const ASK_NOTHING: [i64; 27] = [
-    1, 0, 0, 0, 0, 0, 0, 0, 0, 0, 0, 0, 0, 0, 0, 0, 0, 0, 0, 0, 0, 0, 0, 0, 0, 0, 0,
 ];
 
 // The account at the snapshot of a QSE that has those units.

@@ -37,10 +37,10 @@ impl StruckBook {
         if is_broken(self.ledger.counts, qses, loads, resources, trades) {
             return Err(Fault::BrokenTable);
         }
-        if !is_within(cents, 1, i64::from(MAX_COST)) {
+        if !is_within(cents, 1, MAX_COST as i64) {
             return Err(Fault::OutOfLimits { place: 1 });
         }
-        if !is_within(rate, 0, i64::from(MAX_RATE)) {
+        if !is_within(rate, 0, MAX_RATE as i64) {
             return Err(Fault::OutOfLimits { place: 2 });
         }
         if self.ledger.made >= MAX_CLAIMS {

@@ -1,0 +1,7 @@
+pub mod Computed
+pub mod Kept
+pub mod Read
+pub mod Shown
+pub mod Parted
+pub mod Charge
+pub mod Calls

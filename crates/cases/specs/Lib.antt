@@ -1,0 +1,9 @@
+pub mod Both
+pub mod Entered
+pub mod Kept
+pub mod Written
+pub mod Cases
+pub mod Trade
+pub mod Parts
+pub mod Charge
+pub mod Worked
