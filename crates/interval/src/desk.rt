@@ -1,5 +1,5 @@
 // The rows of one interval as they are entered.
-ghost use Rattle.std.specs.Prelude.{◌≤◌};
+ghost use Rattle.std.specs.Prelude.{◌≤◌, length};
 
 use super::refusal::Refusal;
 use entry::load::load_row;
@@ -25,7 +25,9 @@ pub struct Desk {
 }
 
 // A row more, unless the table has its most.
-fn append<T: Drop>(table: &mut Vec<T>, most: usize, row: T) -> Result<(), Refusal> {
+fn append<T: Drop>(table: &mut Vec<T>, most: usize, row: T) -> Result<(), Refusal>
+    ensures { length table.old.items ≤ most → length table.new.items ≤ most }
+{
     if table.len() >= most {
         return Err(Refusal::Fault(Fault::NoPlace));
     }
