@@ -46,6 +46,7 @@ pub(crate) fn worst_set(reached: &[u64; 144], asked: &Summed) -> WorstSet
 pub(crate) fn worst_of(a: &Account) -> WorstSet
     ensures number { result.number < 144 }
     ensures lack { result.lack ≡ sum_in 9 (mem result.number) (demand (account_view a.now)) - reach_all 9 (sources (account_view a.now).lines) (mem result.number) }
+    ensures first { (k : ℕ) → k < result.number → sum_in 9 (mem k) (demand (account_view a.now)) - reach_all 9 (sources (account_view a.now).lines) (mem k) < result.lack }
     ensures value { result.lack ≡ reserve (account_view a.now) }
     ensures least { LeastUncovered (account_view a.now) result.lack }
     ensures small { result.lack ≤ 46170000000 }

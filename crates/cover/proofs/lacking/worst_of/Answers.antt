@@ -16,6 +16,7 @@ returns c =
     record {
       number = worst.number;
       lack = omega (arith, worst.lack, sum_agrees set c.asked_of.result.figures (demand v) agree, table set worst.number);
+      first = λ k lt. omega (arith, worst.first k lt, sum_agrees k c.asked_of.result.figures (demand v) agree, table k (omega (arith, lt, worst.number)));
       value = reserve_is v _ _ _ table agree worst.most;
       least = least_is v _ _ _ table agree worst.most;
       small = c.worst_set.ensures.small;
