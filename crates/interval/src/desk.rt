@@ -14,7 +14,7 @@ use rows::resource::ResourceRow;
 use rows::trade::TradeRow;
 use std::alloc::Global;
 
-// Its tables grow as rows are entered; those of a journal have their lengths from the start.
+// Its tables grow as rows are entered; those of `shadow` have their lengths from the start.
 #[derive(Drop)]
 pub struct Desk {
     pub qses: Vec<QseRow>,

@@ -36,7 +36,7 @@ fn apply<M: Measure>(
     }
 }
 
-// Makes every call of the journal in order and writes each answer beside its call. Whatever the list: what the
+// Makes every call of the list in order and writes each answer beside its call. Whatever the list: what the
 // guarantee says holds after it, if the book was just opened.
 pub fn replay<'a, M: Measure>(
     book: OpenBook,
