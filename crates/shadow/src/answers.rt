@@ -5,7 +5,7 @@ use replay::calls::{Answer, Entry};
 use std::alloc::{AllocError, Global};
 
 // The calls of the lines, in their order.
-pub(crate) fn calls_of<'a>(heap: Global, lines: &'a [Line]) -> Result<Vec<Entry<'a>>, AllocError> {
+pub(crate) fn calls_of<'a>(heap: Global, lines: &[Line<'a>]) -> Result<Vec<Entry<'a>>, AllocError> {
     let mut calls = Vec::new(heap);
     for line in lines {
         if let Some(Request::Call(call)) = line.request() {

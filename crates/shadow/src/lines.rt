@@ -1,63 +1,43 @@
 // The lines of a journal.
+use super::heads::Head;
 use super::requests::Request;
 use super::verbs::Verb;
 use std::alloc::{AllocError, Global};
 
-// A line that is not skipped.
-#[derive(Drop)]
-pub struct Line {
+// A line that is not skipped. Its numbers are lent from the list of those of all lines: a list for each line takes more
+// memory than the journal itself.
+#[derive(Clone, Copy)]
+pub struct Line<'a> {
     // counted from 1, skipped lines too
     pub number: usize,
     // none where a word is no verb, no edition or no number
     pub verb: Option<Verb>,
-    numbers: Vec<i64>,
+    numbers: &'a [i64],
 }
 
-// A decimal number within 64 signed bits. Only a minus may stand before it, and `parse` takes a plus too.
-fn number_of(word: &str) -> Option<i64> {
-    if word.starts_with('+') {
-        return None;
-    }
-    word.parse::<i64>().ok()
-}
-
-impl Line {
-    // Nothing where the line is blank or begins with #.
-    fn read(heap: Global, number: usize, text: &str) -> Result<Option<Line>, AllocError> {
-        let mut words = text.split_whitespace();
-        let Some(first) = words.next() else {
-            return Ok(None);
-        };
-        if first.starts_with('#') {
-            return Ok(None);
-        }
-        let mut verb = Verb::read(first, &mut words);
-        let mut numbers = Vec::new(heap);
-        for word in words {
-            match number_of(word) {
-                Some(n) => numbers.push(n)?,
-                None => verb = None,
-            }
-        }
-        Ok(Some(Line {
-            number,
-            verb,
-            numbers,
-        }))
-    }
-
+impl<'a> Line<'a> {
     // What the line asks for, or nothing where it is unreadable.
-    pub(crate) fn request(&self) -> Option<Request<'_>> {
-        Request::of(self.verb?, self.numbers.as_slice())
+    pub(crate) fn request(&self) -> Option<Request<'a>> {
+        Request::of(self.verb?, self.numbers)
     }
 }
 
-pub(crate) fn read_lines(heap: Global, text: &str) -> Result<Vec<Line>, AllocError> {
-    let mut lines = Vec::new(heap);
-    for (number, line) in (1usize..).zip(text.lines()) {
-        if let Some(line) = Line::read(heap, number, line)? {
-            lines.push(line)?;
-        }
+// The lines of these heads, whose numbers follow one another in the list.
+pub(crate) fn lines_of<'a>(
+    heap: Global,
+    heads: Vec<Head>,
+    numbers: &'a [i64],
+) -> Result<Vec<Line<'a>>, AllocError> {
+    let mut lines = Vec::with_capacity(heap, heads.len())?;
+    let mut rest = numbers;
+    for head in heads.as_slice() {
+        let (own, more) = rest.split_at(head.count.min(rest.len()));
+        rest = more;
+        lines.push(Line {
+            number: head.number,
+            verb: head.verb,
+            numbers: own,
+        })?;
     }
     Ok(lines)
 }

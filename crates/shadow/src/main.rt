@@ -5,6 +5,7 @@ mod answers;
 mod blanks;
 mod closing;
 mod desk;
+mod heads;
 mod lengths;
 mod lines;
 mod opened;
@@ -14,7 +15,8 @@ mod requests;
 mod settling;
 mod verbs;
 
-use lines::read_lines;
+use heads::read_heads;
+use lines::lines_of;
 use opening::open_book;
 use settling::settle;
 use std::alloc::{AllocError, Global};
@@ -38,10 +40,11 @@ fn read_all(rt: &HostRuntime) -> io::Result<Vec<u8>> {
     Ok(bytes)
 }
 
-// The whole output for a journal. Bytes that are no text make no word that is known.
+// The whole output for a journal.
 fn answer(heap: Global, bytes: &[u8]) -> Result<String, AllocError> {
-    let text = String::from_utf8_lossy(heap, bytes)?;
-    let lines = read_lines(heap, text.as_str())?;
+    let mut numbers = Vec::new(heap);
+    let heads = read_heads(heap, bytes, &mut numbers)?;
+    let lines = lines_of(heap, heads, numbers.as_slice())?;
     let mut out = String::new(heap);
     match open_book(lines.as_slice(), &mut out)? {
         Some(opened) => settle(heap, opened, &mut out)?,

@@ -10,7 +10,7 @@ use std::alloc::AllocError;
 
 // Nothing where no line opens a book.
 pub(crate) fn open_book<'a>(
-    lines: &'a [Line],
+    lines: &'a [Line<'a>],
     out: &mut String,
 ) -> Result<Option<Opened<'a>>, AllocError> {
     let mut lengths = Lengths::usual();
