@@ -1,12 +1,26 @@
-// What two numbers stand for together.
+// Codes of numbers that were judged before, and what two numbers stand for together.
 ghost use Rattle.std.specs.Prelude.{◌≡◌, ◌≤◌, pos, is_some};
 ghost use Rattle.rows.specs.Limits.{max_power};
-ghost use Rattle.rows.specs.Codes.{traded_number, traded_sub, kw_before};
+ghost use Rattle.rows.specs.Codes.{status_number, sides_number, traded_number, traded_sub, kw_before};
 ghost use Rattle.entry.specs.Keeps.{Within};
 ghost use Rattle.entry.specs.Numbers.{mark};
 ghost use Rattle.entry.specs.Rules.{TypedFor, ZeroUnless};
 
-use rows::codes::{SubType, Traded};
+use rows::codes::{Sides, Status, SubType, Traded};
+
+pub(crate) fn status_of(x: i64) -> Status
+    requires { Within x (pos 0) (pos 3) }
+    ensures { pos (status_number result) ≡ x }
+{
+    Status::try_from(x).unwrap()
+}
+
+pub(crate) fn sides_of(x: i64) -> Sides
+    requires { Within x (pos 1) (pos 3) }
+    ensures { pos (sides_number result) ≡ x }
+{
+    Sides::try_from(x).unwrap()
+}
 
 // What a trade moves: its kind, with the sub-type of a position. No `TryFrom`: it takes two numbers, judged before, and
 // cannot fail.

@@ -7,11 +7,11 @@ ghost use Rattle.entry.specs.Parts.{Fits};
 ghost use Rattle.entry.specs.Places.{resource_side};
 
 use super::checks::check;
-use super::codes::decommitted_at;
+use super::codes::{decommitted_at, status_of};
 use super::form::Form;
 use super::places::{COP, OFFERED, QUALIFIED, RESOURCE_SIDE_SIZE};
 use super::powers::nine;
-use rows::codes::{Kind, Status};
+use rows::codes::Kind;
 use rows::fault::Fault;
 use rows::resource::{ResourceRow, ResourceSide};
 
@@ -20,7 +20,7 @@ fn resource_side(list: &[i64]) -> ResourceSide
     ensures { side_numbers (plain_side result) ≡ list.now }
 {
     ResourceSide {
-        status: Status::try_from(list[0]).unwrap(),
+        status: status_of(list[0]),
         hsl: list[1] as u32,
         lsl: list[2] as i32,
         potential: list[3] as u32,

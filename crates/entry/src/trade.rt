@@ -4,9 +4,8 @@ ghost use Rattle.entry.specs.Keeps.{Entered};
 ghost use Rattle.entry.specs.Numbers.{trade_numbers, Counting};
 
 use super::checks::check;
-use super::codes::traded_of;
+use super::codes::{sides_of, traded_of};
 use super::form::Form;
-use rows::codes::Sides;
 use rows::fault::Fault;
 use rows::trade::TradeRow;
 
@@ -21,7 +20,7 @@ pub fn trade_row(list: &[i64]) -> Result<TradeRow, Fault>
     };
     Ok(TradeRow {
         traded: traded_of(*kind, *sub),
-        sides: Sides::try_from(*sides).unwrap(),
+        sides: sides_of(*sides),
         seller: *seller as u16,
         buyer: *buyer as u16,
         kw: *kw as u32,

@@ -18,6 +18,16 @@ pub(crate) struct Measured {
     first: [u64; MAX_QSES],
 }
 
+// Notes a shortfall where there is a place for it.
+fn keep(first: &mut [u64; MAX_QSES], i: usize, s: u64)
+    ensures here { i < MAX_QSES → slice_index first.new i ≡ s }
+    ensures others { (k : ℕ) → k < i → slice_index first.new k ≡ slice_index first.old k }
+{
+    if i < MAX_QSES {
+        first[i] = s;
+    }
+}
+
 impl Measured {
     // The sum of all shortfalls, and the first of them. The QSE rows stand beside the tables, here and in the two calls
     // that ask this: one of them writes the rows while it reads the tables.
@@ -30,9 +40,7 @@ impl Measured {
         for (i, row) in rows.iter().enumerate() {
             let s = short_of(m, row, tables);
             sum += u128::from(s);
-            if i < MAX_QSES {
-                first[i] = s;
-            }
+            keep(&mut first, i, s);
         }
         Measured { sum, first }
     }

@@ -1,7 +1,5 @@
 use Rattle.std.proofs.Common.{◌∙◌, arith}
 use Rattle.std.proofs.lemmas.Int.{ints}
-use Rattle.rows.specs.Codes.{status_number}
-use Rattle.rows.proofs.CodeRead.{code_of_number}
 use Rattle.entry.specs.Places.{at, resource_side, offered_at, cop_at, qualified_at, sub_types}
 use Rattle.entry.proofs.Casts.{cast_back, read_back, signed_back}
 use Rattle.entry.proofs.Joined.{cons_same, append_same, firsts_and_rest, three_parts}
@@ -29,7 +27,7 @@ pub returns : goal.returns
 returns c =
     let xs = c.args.list.now in
     let w = c.requires.1.limited in
-    cons_same (code_of_number status_number 0 3 c.try_from.ensures c.unwrap.ensures ∙ read_back (at xs 0) (omega arith) (w 0 (omega arith)))
+    cons_same (c.status_of.ensures ∙ read_back (at xs 0) (omega arith) (w 0 (omega arith)))
     (cons_same (cast_back (at xs 1) (omega arith) (w 1 (omega arith)))
     (cons_same (signed_back (at xs 2) (w 2 (omega arith)))
     (cons_same (cast_back (at xs 3) (omega arith) (w 3 (omega arith)))

@@ -1,7 +1,5 @@
 use Rattle.std.proofs.Common.{sym, refl, ◌∙◌, arith}
 use Rattle.std.proofs.lemmas.List.{drop_all}
-use Rattle.rows.specs.Codes.{sides_number}
-use Rattle.rows.proofs.CodeRead.{code_of_number}
 use Rattle.entry.specs.Places.{at, size}
 use Rattle.entry.specs.Keeps.{AllKept}
 use Rattle.entry.specs.declared.form.Form.TheVariants.{Trade}
@@ -25,7 +23,7 @@ returns c =
         g,
         cons_same (c.traded_of.ensures.kind ∙ read_back (at xs 0) (omega arith) (w 0 (omega arith)))
             (cons_same (c.traded_of.ensures.sub ∙ read_back (at xs 1) (omega arith) (w 1 (omega arith)))
-            (cons_same (code_of_number sides_number 1 3 c.try_from.ensures c.unwrap.ensures ∙ read_back (at xs 2) (omega arith) (w 2 (omega arith)))
+            (cons_same (c.sides_of.ensures ∙ read_back (at xs 2) (omega arith) (w 2 (omega arith)))
             (cons_same (cast_back (at xs 3) (omega arith) (w 3 (omega arith)))
             (cons_same (cast_back (at xs 4) (omega arith) (w 4 (omega arith)))
             (cons_same (cast_back (at xs 5) (omega arith) (w 5 (omega arith)))

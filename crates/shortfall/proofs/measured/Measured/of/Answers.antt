@@ -1,4 +1,4 @@
-use Rattle.std.proofs.Common.{◌≡◌, ℕ, ◌<◌, length, get_or, ap, ◌∙◌, arith, get_or-set_other, get_or-set_same, length-set, below_more}
+use Rattle.std.proofs.Common.{◌≡◌, ℕ, ◌<◌, get_or, ap, ◌∙◌, arith, below_more}
 use Rattle.std.proofs.lemmas.List.{get_or_default}
 use Rattle.rows.specs.Rows.{plain_qse}
 use Rattle.rows.specs.declared.qse.QseRow.{QseRow}
@@ -6,7 +6,6 @@ use Rattle.account.specs.Account.{plain_tables}
 use Rattle.account.proofs.Rows.{sum_turn}
 use Rattle.shortfall.specs.Strike.{row_short}
 use Rattle.shortfall.proofs.measured.Measured.of.Goals as goal
-use Rattle.shortfall.proofs.measured.Measured.of.Goals.{then-i-lt-MAX_QSES, else-i-lt-MAX_QSES}
 
 pub loop-i-preserved : goal.loop-i-preserved
 loop-i-preserved g c =
@@ -14,23 +13,12 @@ loop-i-preserved g c =
     let R = c.args.rows.now in
     let i = c.loop-i.i in
     let x = c.index-rows-i.result in
-    let s = c.short_of-s.result in
-    let old = c.loop-i.first in
     let inv = c.loop-i.invariant in
     let lt = c.loop-i-test.true in
     let s-is = c.short_of-s.ensures.value in
-    let P : ℕ → Type 0 = λ k. k < 64 → (d : QseRow) → get_or c.if-i-lt-MAX_QSES.first k 0 ≡ f (get_or R k d) in (
+    let P : ℕ → Type 0 = λ k. k < 64 → (d : QseRow) → get_or c.keep.new.first k 0 ≡ f (get_or R k d) in (
       sum_turn f R _ x lt c.index-rows-i.is inv.0 (c.from-sum.ensures ∙ s-is),
       omega (arith, inv.1, c.from-sum.ensures, c.short_of-s.ensures.small),
-      elim c.if-i-lt-MAX_QSES.branch [
-        | then-i-lt-MAX_QSES w ↦ ap length w.first-is ∙ length-set old i s ∙ inv.2
-        | else-i-lt-MAX_QSES w ↦ ap length w.first-is ∙ inv.2
-      ],
-      elim c.if-i-lt-MAX_QSES.branch [
-        | then-i-lt-MAX_QSES w ↦
-            below_more P i
-            (λ k h few d. ap (λ l. get_or l k 0) w.first-is ∙ get_or-set_other old i k s 0 (omega arith) ∙ inv.3 k h few d)
-            (λ few d. ap (λ l. get_or l i 0) w.first-is ∙ get_or-set_same old i s 0 (omega arith) ∙ s-is ∙ ap f (c.index-rows-i.is ∙ get_or_default R i x d lt))
-        | else-i-lt-MAX_QSES w ↦ below_more P i (λ k h few d. ap (λ l. get_or l k 0) w.first-is ∙ inv.3 k h few d) (λ few d. absurd (omega arith))
-      ],
+      omega (arith, c.keep.auto.first, inv.2),
+      below_more P i (λ k h few d. c.keep.ensures.others k h ∙ inv.3 k h few d) (λ few d. c.keep.ensures.here few ∙ s-is ∙ ap f (c.index-rows-i.is ∙ get_or_default R i x d lt)),
     )
