@@ -5,7 +5,7 @@ ghost use Rattle.drawn.specs.Draws.{next_state, number_at};
 use std::alloc::Global;
 
 // The state of the draws, and the heap on which their lists are made.
-#[derive(Drop)]
+#[derive(Clone, Copy)]
 pub struct Draws {
     pub state: u64,
     pub heap: Global,

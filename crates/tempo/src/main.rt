@@ -9,6 +9,7 @@ mod work;
 use account::counted::not_below_zero;
 use anyhow::{Context, anyhow};
 use cover::sub_type::SubType;
+use cover::uncovered::least_uncovered;
 use dump::dump;
 use fleet::Fleet;
 use measure::grouped::Grouped;
@@ -62,6 +63,9 @@ fn time_one(rt: &HostRuntime, fleet: &Fleet) -> anyhow::Result<()> {
     let cover = timed(rt, fleet, &mut covered)?;
     if covered.given().saturating_add(cover.answer) != owed(fleet)? {
         return Err(anyhow!("the cover does not add up"));
+    }
+    if cover.answer != least_uncovered(&fleet.account(fleet.tables()?, 0)) {
+        return Err(anyhow!("the cover does not leave the least"));
     }
     let (a, b, c) = (grouped.answer, sub_type.answer, cover.answer);
     println!(rt; "units {units} grouped {a} subtype {b} uncovered {c}")?;
